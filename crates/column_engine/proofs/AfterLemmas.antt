@@ -1,5 +1,5 @@
--- Runs that pass over lines first: what they pass over, their output and their end are the ones.
-use Rattle.std.proofs.Common.{◌≡◌, ◌==◌, ◌<◌, ◌+◌, ◌-◌, ℕ, suc, List, [], ◌∷◌, ◌++◌, Bool, refl, sym, ap, ◌∙◌, subst, append-nil, arith, if◌then◌else◌, length, length-append, inl, inr, get_or}
+-- Runs that first pass over lines: the input determines these lines, the output and the end.
+use Rattle.std.proofs.Common.{◌≡◌, ◌==◌, ◌<◌, ◌+◌, ◌-◌, ℕ, suc, List, [], ◌∷◌, ◌++◌, refl, sym, ap, ◌∙◌, subst, append-nil, arith, if◌then◌else◌, length, length-append, inl, inr, get_or}
 use Rattle.std.specs.Prelude.{Option, Some, None}
 use Rattle.line_engine.specs.AnswerText.{AnswerText}
 use Rattle.column_engine.specs.Answers.{State}
@@ -20,7 +20,7 @@ newlines_both : (xs ys : List ℕ) → newlines (xs ++ ys) ≡ newlines xs + new
 newlines_both [] ys = omega arith
 newlines_both (x ∷ xs) ys = omega (arith, newlines_both xs ys)
 
--- whole lines that are not none have a newline
+-- whole lines, unless empty, contain a newline
 last_counts : (x : ℕ) (xs : List ℕ) → get_or (x ∷ xs) (length xs) 0 ≡ 10 → 0 < newlines (x ∷ xs)
 last_counts x [] is = rw is (omega arith)
 last_counts x (y ∷ ys) is = omega (arith, last_counts y ys is)
@@ -68,9 +68,9 @@ lines_are_the_ones count xs ys rest rest' e first next =
     let same = first_one count xs ys rest rest' e first next in
     (same, left_cancel xs rest rest' (e ∙ ap (λ l. l ++ rest') (sym same)))
 
--- ---- the run after them
+-- ---- the run after these lines
 module _ (A : List ℕ → AnswerText → Type 0) (one : (field : List ℕ) (a b : AnswerText) → A field a → A field b → a ≡ b) (keeps : Keeping) (d : ℕ) (columns : List Column) where
-  -- what is left after the lines, and what was written by then
+  -- a run over the rest of the input after its first lines, which were written
   pub record RunsAfter (count : ℕ) (stop : Stop) (s u : State) (input before a : List ℕ) (left : Option (List ℕ)) : Type 0 where
     pub bytes : List ℕ
     pub rest : List ℕ
@@ -95,7 +95,7 @@ module _ (A : List ℕ → AnswerText → Type 0) (one : (field : List ℕ) (a b
   same_lines count stop other s t u input before a b left left' first next =
       lines_are_the_ones count first.bytes next.bytes first.rest next.rest (sym first.cut ∙ next.cut) first.first next.first
 
-  -- the first of the two runs over what the second one is over
+  -- both runs start at the same byte, so the first is also a run over the second's rest
   moved : (count : ℕ) (stop other : Stop) (s t u : State) (input before a b : List ℕ) (left left' : Option (List ℕ)) (first : RunsAfter count stop s t input before a left)
       (next : RunsAfter count other s u input before b left') → HasRun stop A keeps d columns s t (Some next.rest) left (Some (before ++ next.bytes)) (Some a)
   moved count stop other s t u input before a b left left' first next =

@@ -1,5 +1,5 @@
--- How a run ended is determined by what was taken and by the counts of failures.
-use Rattle.std.proofs.Common.{◌≡◌, ◌<◌, ◌≤◌, ◌+◌, ◌-◌, ◌^◌, ℕ, zero, suc, List, [], ◌∷◌, ◌++◌, Bool, true, false, refl, sym, ap, ◌∙◌, subst, append_assoc, arith, length, length-append, take, inl, inr, ◌⊎◌, ⊎_elim}
+-- The bytes taken and the counts of failures determine how a run ended.
+use Rattle.std.proofs.Common.{◌≡◌, ◌<◌, ◌≤◌, ◌+◌, ◌-◌, ◌^◌, ℕ, zero, suc, List, [], ◌∷◌, ◌++◌, true, false, refl, sym, ap, ◌∙◌, subst, append_assoc, arith, length, length-append, take, inl, inr, ◌⊎◌, ⊎_elim}
 use Rattle.std.proofs.lemmas.Bool.{false≢true}
 use Rattle.std.specs.Prelude.{◌≢◌, ⊤, Option, Some, string_bytes}
 use Rattle.csv.specs.Reading.{strip_bom}
@@ -25,7 +25,7 @@ use Rattle.column_engine.proofs.UniqueLemmas.{all_found_one, first_row_one, last
 not_failed : (n m : ℕ) → n < 2 ^ 64 - 1 → m ≡ n → HasFailed n m → ⊥
 not_failed n m room same failed = omega (arith, room, same, failed)
 
--- an end without a failure
+-- an end without a failed read, a failed write or a lack of memory
 pub IsCalm : Stop → Type 0
 IsCalm Done = ⊤
 IsCalm ReadFault = ⊥
@@ -66,7 +66,7 @@ kinds Unclosed other = inr (inr tt)
 kinds (NoColumn count) other = inr (inr tt)
 kinds NoName other = inr (inr tt)
 
--- ---- more bytes than a record has
+-- ---- bytes beyond the longest record
 long_row : (d : ℕ) (p : Place) (body more : List ℕ) (byte m : ℕ) → length body ≤ m → ends_record (places_after d p body) byte ≡ true
     → IsUnended d p (take (suc m) (body ++ byte ∷ more)) → ⊥
 unfolding IsUnended places_after
@@ -80,7 +80,7 @@ long_ended d row rest more ended short is long =
     let count : longest_record + 1 ≡ suc longest_record = omega arith in
     long_row d Start row.body more ended.byte longest_record short ended.ends (subst (λ l. IsUnended d Start (take (suc longest_record) l)) text (subst (λ n. IsUnended d Start (take n rest)) count long.unended))
 
--- ---- an answer, and why there is none
+-- ---- a record is not both answered and refused
 missing_found : (names : List (List ℕ)) (column : Column) (found : Range) → IsFound names column found → IsMissing names column → ⊥
 missing_found names (At range) found is missing = missing
 missing_found names (Named name range) found (inl is) missing = named_none (string_bytes name) names found.from is.0 missing.0
@@ -129,7 +129,7 @@ module _ (A : List ℕ → AnswerText → Type 0) (one : (field : List ℕ) (a b
   missing_answered s t row text missing (inl empty) = missing.0.some empty.empty
   missing_answered s t row text missing (inr some) = missing_some s t row text missing.1 missing.2 some.1
 
-  -- the next record is the one
+  -- the next record is the one that the rest starts with
   next_unended : (s : State) (row row' : Row) (rest more : List ℕ) (left : Option (List ℕ)) → IsNext d row' rest left → IsEnded d row → rest ≡ row_text row ++ more → row' ≡ row
   next_unended s row row' rest more left (inl next) ended is = (first_row_one d row' row next.0 more next.2 ended (sym next.1 ∙ is)).0
   next_unended s row row' rest more left (inr last) ended is = absurd (unended_row d row more rest ended (subst (IsUnended d Start) (sym last.1) last.2.unended) is)
@@ -141,7 +141,7 @@ module _ (A : List ℕ → AnswerText → Type 0) (one : (field : List ℕ) (a b
       let same = next_unended s row refuses.0 rest more left refuses.1 ended is in
       never (subst (IsUnanswered stop d columns s) same refuses.2) answers
 
-  -- no run ends before a record that was answered
+  -- a run without a failure does not end before a record that it can answer
   not_before : (stop : Stop) (s t u : State) (row : Row) (rest more text part : List ℕ) (left : Option (List ℕ)) → IsCalm stop → Ends stop A keeps d columns s rest left part u
       → IsEnded d row → rest ≡ row_text row ++ more → AnswersRow A keeps d columns s row text t → ⊥
   unfolding IsCalm
@@ -156,7 +156,7 @@ module _ (A : List ℕ → AnswerText → Type 0) (one : (field : List ℕ) (a b
   not_before NoName s t u row rest more text part left calm ends ended is answers =
       refused_answered NoName s t u row rest more text part left (missing_answered s t row text) ends ended is answers
 
-  -- ---- two ends at one place
+  -- ---- two ends with the same rest
   last_short : (s u : State) (rest part : List ℕ) → AnswersLast A keeps d columns s rest part u → length rest ≤ longest_record
   last_short s u rest part (inl none) = omega (arith, ap length none.0)
   last_short s u rest part (inr some) = omega (arith, ap length some.1, row_short s some.3 some.0 part some.4)
@@ -307,7 +307,7 @@ module _ (A : List ℕ → AnswerText → Type 0) (one : (field : List ℕ) (a b
       ends_one stop other s x.between y.between u v x.rows y.rows x.rest y.rest x.text y.text x.part y.part (Some left) (Some left) calm calm' x.ended y.ended x.answers y.answers
       (sym x.split ∙ ap strip_bom same ∙ y.split) x.ends y.ends
 
-  -- a run over a text of fewer bytes than it takes has an end
+  -- a run over a text shorter than the longest has an end
   not_endless : (stop : Stop) (s u : State) (input left : List ℕ) (written written' : Option (List ℕ)) → length input < longest_text
       → IsEndless stop A keeps d columns s u (Some input) (Some left) written written' → ⊥
   not_endless stop s u input left written written' short endless =

@@ -1,4 +1,4 @@
--- Records that were answered, one after another.
+-- Records, answered one after another.
 use lib.Seq.{take-nil}
 use Rattle.std.proofs.Common.{◌≡◌, ◌<◌, ◌≤◌, ◌+◌, ◌-◌, drop, get_or, drop-cons, add-one, List, ℕ, suc, [], ◌∷◌, ◌++◌, Bool, true, false, refl, sym, ap, ◌∙◌, append_assoc, append-nil, length, take, arith, subst, Option, length-append, take-append-drop, zero, inl, inr}
 use Rattle.std.specs.Prelude.{◌==◌, if◌then◌else◌}
@@ -16,7 +16,7 @@ use Rattle.column_engine.specs.declared.columns.Range.{Range}
 use Rattle.column_engine.specs.declared.end.Stop.{Stop}
 use Rattle.column_engine.specs.declared.end.Stop.TheVariants.{Done, NoColumn, NoMemory, NoName, ReadFault, TooLong, Unclosed, WriteFault}
 use Rattle.column_engine.specs.Limits.{longest_record}
-use Rattle.std.specs.Prelude.{◌≢◌, Result, Ok, Err, Some, None, IfErr, IfSome, OnErr}
+use Rattle.std.specs.Prelude.{◌≢◌, Some, None, IfSome}
 use Rattle.column_engine.specs.declared.columns.Column.{Column}
 use Rattle.column_engine.specs.declared.columns.Keeping.{Keeping}
 use Rattle.column_engine.specs.declared.place.Place.{Place}
@@ -31,7 +31,7 @@ ended_append d (row ∷ rows) more first next = (first.0, ended_append d rows mo
 pub standing_none : (d : ℕ) → IsStanding d [] Start
 standing_none d = record { unended = unended_none d Start; place_is = sym (places_none d Start) }
 
--- the bytes that are kept, and more of their record
+-- the kept bytes and more bytes of their record
 pub standing_more : (d : ℕ) (kept more : List ℕ) (place after : Place) → IsStanding d kept place → IsUnended d place more → after ≡ places_after d place more → IsStanding d (kept ++ more) after
 standing_more d kept more place after before unended is = record {
   unended = unended_append d Start kept more before.unended (rw (← before.place_is) unended);
@@ -47,7 +47,7 @@ ended_one d kept part byte place after before unended is ends =
 pub standing_start : (d : ℕ) (kept : List ℕ) (place : Place) → kept ≡ [] → place ≡ Start → IsStanding d kept place
 standing_start d kept place none start = rw (none, start) (standing_none d)
 
--- a record ends at this byte of these
+-- the record ends at the byte with index `end`
 pub record EndsAt (d : ℕ) (from after : Place) (rest : List ℕ) (end : ℕ) : Type 0 where
   pub low : end < length rest
   pub unended : IsUnended d from (take end rest)
@@ -68,7 +68,7 @@ unended_take d n place [] all = subst (IsUnended d place) (sym (take-nil n)) tt
 unended_take d zero place (x ∷ xs) all = tt
 unended_take d (suc n) place (x ∷ xs) all = (all.0, unended_take d n (place_after d place x) xs all.1)
 
--- more bytes of a record than it may have
+-- a record that exceeds the greatest length
 pub long_standing : (d most : ℕ) (kept rest : List ℕ) (place after : Place) → IsStanding d kept place → IsUnended d place rest → after ≡ places_after d place rest
     → most < length kept + length rest → (most < length (kept ++ rest)) × IsUnended d Start (take (most + 1) (kept ++ rest))
 long_standing d most kept rest place after before unended is many =
@@ -114,10 +114,6 @@ pub some_of : (xs : List ℕ) → (length xs == 0) ≡ false → xs ≢ []
 some_of [] e = let both : true ≡ false = e in cc
 some_of (x ∷ xs) e = λ same. let long : suc (length xs) ≡ 0 = ap length same in omega (arith, long)
 
-pub stops_by : (r : Result (Unit {0}) Stop) (P : Type 0) (F : Stop → Type 0) → IfErr r (λ stop. stop ≡ WriteFault) → OnErr r P → (P → F WriteFault) → IfErr r F
-stops_by (Ok x) P F is p f = tt
-stops_by (Err e) P F is p f = subst F (sym is) (f p)
-
 module _ (A : List ℕ → AnswerText → Type 0) (keeps : Keeping) (d : ℕ) (columns : List Column) where
   pub row_empty : (s : State) (row : Row) → row.body ≡ [] → AnswersRow A keeps d columns s row row.end s
   row_empty s row is = inl (record { empty = is; text_is = refl; after = refl })
@@ -141,7 +137,7 @@ module _ (A : List ℕ → AnswerText → Type 0) (keeps : Keeping) (d : ℕ) (c
     gathered = flushes_both held (answers_text d 0 fields.answers) row.end mid new a b c fields.gathered last;
   }
 
-  -- a write failed after the fields, or among them
+  -- a write failed among the fields or after them
   pub fails_fields : (s : State) (row : Row) (refused : ℕ) (held mid : List ℕ) (a b c : Option (List ℕ)) → length row.body ≤ longest_record → s.headed ≡ false → s.into ≡ None → row.body ≢ [] → needed s.asked ≤ length (raw_fields d Start row.body)
       → GathersFields A keeps d s.asked 0 (raw_fields d Start row.body) refused held mid a b → ((left : List ℕ) × Flushes mid row.end left b c)
       → FailsRow A keeps d columns row s held a c
@@ -161,7 +157,7 @@ module _ (A : List ℕ → AnswerText → Type 0) (keeps : Keeping) (d : ℕ) (c
     gathered = part.fields.gathered;
   }
 
-  -- a record with a new column
+  -- a record with a new column was answered
   pub row_longer : (s : State) (name : List ℕ) (row : Row) (refused : Bool) (held new : List ℕ) (a b : Option (List ℕ)) → length row.body ≤ longest_record → s.headed ≡ false → s.into ≡ Some name
       → row.body ≢ [] → needed s.asked ≤ length (raw_fields d Start row.body) → (one : GathersLonger A keeps d s.asked row refused held new a b)
       → AnswersRow A keeps d columns s row (row.body ++ d ∷ one.text ++ row.end) (one_more s (if refused then 1 else 0))

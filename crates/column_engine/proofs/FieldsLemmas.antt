@@ -1,4 +1,4 @@
--- The fields of a record that are passed over at once.
+-- The fields of a record that are passed over without an answer.
 use Rattle.std.proofs.Common.{◌≡◌, ◌==◌, ◌<◌, ◌≤◌, ◌+◌, ◌-◌, ℕ, suc, List, [], ◌∷◌, ◌++◌, Bool, true, false, length, take, drop, refl, sym, ap, ◌∙◌, append_assoc, append-nil, arith, if◌then◌else◌, subst, map, get_or, drop-cons, ◌^◌, zero, ⊎_elim, length-append}
 use Rattle.std.proofs.lemmas.Bool.{cases_lt}
 use Rattle.std.proofs.lemmas.Bool.Decides.{nat_tests}
@@ -19,7 +19,7 @@ use Rattle.column_engine.proofs.GatherLemmas.{before_later, fields_one, flushes_
 use Rattle.column_engine.proofs.PlaceLemmas.{ends_is}
 use Rattle.column_engine.proofs.RowLemmas.{first_field, raw_end, raw_none, raw_on}
 
--- ---- what lies ahead
+-- ---- the bytes still to be gathered
 slice_join : (body : List ℕ) (from start end : ℕ) → from ≤ start → start ≤ end
     → take (end - from) (drop from body) ≡ take (start - from) (drop from body) ++ take (end - start) (drop start body)
 slice_join body from start end low high =
@@ -37,13 +37,13 @@ ahead_none held body end =
     let none : end - end ≡ 0 = omega arith in
     ap (λ n. held ++ take n (drop end body)) none ∙ append-nil held
 
--- up to the next field, past the delimiter
+-- the bytes up to the next field, with the delimiter
 pub ahead_next : (held body : List ℕ) (d from end : ℕ) → from ≤ end → take 1 (drop end body) ≡ d ∷ [] → ahead held body from end ++ d ∷ [] ≡ ahead held body from (end + 1)
 ahead_next held body d from end low one =
     let single : end + 1 - end ≡ 1 = omega arith in
     sym (ahead_more held body from end (end + 1) low (omega arith) ∙ ap (λ n. ahead held body from end ++ take n (drop end body)) single ∙ ap (λ l. ahead held body from end ++ l) one)
 
--- and up to the end of the record
+-- the bytes up to the end of the record
 pub ahead_rest : (held body : List ℕ) (from start : ℕ) → from ≤ start → start ≤ length body → ahead held body from start ++ drop start body ≡ held ++ take (length body - from) (drop from body)
 ahead_rest held body from start low high =
     let all : take (length body - start) (drop start body) ≡ drop start body = take_rest body start in
@@ -72,7 +72,7 @@ module _ (A : List ℕ → AnswerText → Type 0) (keeps : Keeping) (d : ℕ) wh
       → GathersField A keeps d asks raw refused (ahead held body from start) (ahead new body end end) a b
   pass_asked asks refused held new body raw from start end a b is one = rw (ahead_none new body end) (pass_part asks refused held new body raw from start a b is one)
 
--- ---- the fields after the last that is asked for
+-- ---- fields joined with delimiters, and their count
 unfoldable pub joined_more : ℕ → List (List ℕ) → List ℕ
 joined_more d [] = []
 joined_more d (raw ∷ raws) = d ∷ raw ++ joined_more d raws
@@ -122,12 +122,12 @@ joined_one d place b rest true yea first next =
 joined_one d place b rest false nay first next =
     ap (joined d) (raw_on d place b rest nay) ∙ joined_onto d b (raw_fields d (within_after place b) rest) (raw_some d (within_after place b) rest) ∙ ap (λ l. b ∷ l) next
 
--- the fields of a record and the delimiters between them are its bytes
+-- the fields of a record, joined with delimiters, are its bytes
 pub joined_is : (d : ℕ) (place : Place) (body : List ℕ) → joined d (raw_fields d place body) ≡ body
 joined_is d place [] = joined_none d place
 joined_is d place (b ∷ rest) = joined_one d place b rest (ends_field d place b) refl (joined_is d Start rest) (joined_is d (within_after place b) rest)
 
--- and there are at most as many as bytes, and one
+-- a record has at most one field more than bytes
 length_onto : (b : ℕ) (raws : List (List ℕ)) → length (onto_first b raws) ≡ length raws
 length_onto b [] = refl
 length_onto b (raw ∷ raws) = refl
@@ -192,7 +192,7 @@ module _ (A : List ℕ → AnswerText → Type 0) (keeps : Keeping) (d : ℕ) (a
   refused_append [] raws = none_refused raws
   refused_append (a ∷ answers) raws = ap (λ n. (if a.refused then 1 else 0) + n) (refused_append answers raws)
 
-  -- the fields after the last that is asked for, with the bytes that are ahead
+  -- the fields after the last requested one, and the bytes still to be gathered
   pub fields_rest : (column count : ℕ) (some : List (List ℕ)) (rest held before new : List ℕ) (a b c : Option (List ℕ)) → column ≡ length some
       → ((k : ℕ) → column ≤ k → k < column + length (raw_fields d Start rest) → is_asked asked k ≡ false)
       → GathersFields A keeps d asked 0 some count held before a b → Flushes before (before_field d column ++ rest) new b c
@@ -249,7 +249,7 @@ pub flushes_rest : (before part rest out last new : List ℕ) (a b : Option (Lis
     → Flushes before (part ++ rest) new a b
 flushes_rest before part rest out last new a b is all = record { gone = all.gone; split = sym (append_assoc before part rest) ∙ is ∙ all.split; appends = all.appends }
 
--- no field from this column on is asked for
+-- no field from this column on is requested
 pub none_after : (d : ℕ) (asked : List Range) (body : List ℕ) (past column start most : ℕ) → past ≤ column → column ≤ start → start ≤ length body → length body ≤ most
     → most + 1 < 2 ^ 64 - 1 → ((k : ℕ) → past ≤ k → k < 2 ^ 64 - 1 → is_asked asked k ≡ false)
     → (k : ℕ) → column ≤ k → k < column + length (raw_fields d Start (drop start body)) → is_asked asked k ≡ false
@@ -258,7 +258,6 @@ none_after d asked body past column start most after span fits short room none k
     none k (omega (arith, after, low)) (omega (arith, high, few, length-drop start body, span, fits, short, room))
 
 module _ (A : List ℕ → AnswerText → Type 0) (keeps : Keeping) (d : ℕ) (asked : List Range) where
-  -- one more field
   pub fields_next : (some : List (List ℕ)) (raw : List ℕ) (column count n : ℕ) (held before from_here new : List ℕ) (a b c : Option (List ℕ)) → column ≡ length some
       → GathersFields A keeps d asked 0 some count held before a b → before ++ before_field d column ≡ from_here
       → ((refused : Bool) × (n ≡ (if refused then 1 else 0)) × GathersField A keeps d (is_asked asked column) raw refused from_here new b c)
@@ -304,7 +303,7 @@ before_next d body start end column some ordered is one before =
     ∙ ap (λ l. l ++ d ∷ []) (sym (texts_end d 0 some raw ∙ ap (λ c. texts ++ (before_field d c ++ raw)) place))
     ∙ ap (λ l. answers_text d 0 (map unanswered (some ++ raw ∷ [])) ++ l) (sym (before_later d column))
 
--- the bytes behind a field
+-- the delimiter after a field, and the fields after it
 behind_it : (d : ℕ) (body : List ℕ) (end column : ℕ) → end < length body → take 1 (drop end body) ≡ d ∷ []
     → drop end body ≡ answers_text d (column + 1) (map unanswered (raw_fields d Start (drop (end + 1) body)))
 behind_it d body end column low one =
@@ -345,7 +344,7 @@ field_here d body start end column some ordered found cut is before = ⊎_elim
 pub last_count : (all some : List (List ℕ)) (raw : List ℕ) (count : ℕ) → all ≡ some ++ raw ∷ [] → count ≡ length some → count + 1 ≡ length all
 last_count all some raw count cut is = omega (arith, ap length cut, length-append some (raw ∷ []), is)
 
--- no other field is asked for
+-- `only column` requests this column and no other
 only_it : (column : ℕ) → is_asked (only column) column ≡ true
 only_it column = grind (arith, nat_tests)
 
@@ -361,7 +360,7 @@ refused_around [] more answer = omega (arith, none_refused more)
 refused_around (raw ∷ some) more answer = omega (arith, refused_around some more answer)
 
 module _ (A : List ℕ → AnswerText → Type 0) (keeps : Keeping) (d : ℕ) where
-  -- one field answered, and the bytes around it
+  -- one field was answered, and the bytes around it were copied
   pub field_around : (body : List ℕ) (column start end : ℕ) (text : List ℕ) (refused : Bool) (held new : List ℕ) (a b : Option (List ℕ)) → IsFieldAt d body column start end
       → IsAnswer A keeps d true (take (end - start) (drop start body)) (record { text = text; refused = refused })
       → Flushes held ((take start body ++ text) ++ drop end body) new a b
@@ -410,7 +409,7 @@ module _ (A : List ℕ → AnswerText → Type 0) (keeps : Keeping) (d : ℕ) wh
       (field_around body column start end one.text refused held (left ++ drop end body) a b at one.answer
       (subst (λ l. Flushes held ((l ++ one.text) ++ drop end body) (left ++ drop end body) a b) before_is more))
 
--- the field in a column
+-- the field in the column `length some`
 got_at : (some more : List (List ℕ)) (raw : List ℕ) → get_or (some ++ raw ∷ more) (length some) [] ≡ raw
 got_at [] more raw = refl
 got_at (x ∷ some) more raw = got_at some more raw

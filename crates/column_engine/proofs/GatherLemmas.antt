@@ -1,4 +1,4 @@
--- What was gathered, one piece after another.
+-- Pieces of the output, gathered and written one after another.
 use Rattle.std.proofs.Common.{◌≡◌, ◌+◌, ◌==◌, List, ℕ, suc, [], ◌∷◌, ◌++◌, Bool, false, refl, sym, ap, ◌∙◌, append_assoc, append-nil, length, arith, if◌then◌else◌, subst}
 use Rattle.std.proofs.KnownBytes.{Appends-trans, Appends-nil}
 use Rattle.std.specs.Prelude.{Option, Result, Ok, Err, IfOk, OnErr}
@@ -11,11 +11,11 @@ use Rattle.column_engine.specs.Gathered.{GathersField, GathersFields, GathersPar
 use Rattle.column_engine.specs.declared.columns.Keeping.{Keeping}
 use Rattle.column_engine.specs.declared.columns.Range.{Range}
 
--- nothing more
+-- no new piece
 pub flushes_none : (held : List ℕ) (a : Option (List ℕ)) → Flushes held [] held a a
 flushes_none held a = record { gone = []; split = append-nil held; appends = Appends-nil a }
 
--- one piece, and then another
+-- two pieces, one after the other
 pub flushes_both : (held more most held' held'' : List ℕ) (a b c : Option (List ℕ)) → Flushes held more held' a b → Flushes held' most held'' b c → Flushes held (more ++ most) held'' a c
 flushes_both held more most held' held'' a b c first next = record {
   gone = first.gone ++ next.gone;
@@ -23,7 +23,7 @@ flushes_both held more most held' held'' a b c first next = record {
   appends = Appends-trans a b c first.gone next.gone first.appends next.appends;
 }
 
--- a piece that is still to come
+-- one more piece, still to be gathered
 pub flushes_more : (held more held' most : List ℕ) (a b : Option (List ℕ)) → Flushes held more held' a b → Flushes held (more ++ most) (held' ++ most) a b
 flushes_more held more held' most a b first = record {
   gone = first.gone;
@@ -31,15 +31,15 @@ flushes_more held more held' most a b first = record {
   appends = first.appends;
 }
 
--- a piece was gathered
+-- a piece was gathered, and nothing was written
 pub flushes_push : (held more : List ℕ) (a : Option (List ℕ)) → Flushes held more (held ++ more) a a
 flushes_push held more a = record { gone = []; split = refl; appends = Appends-nil a }
 
--- a prefix was written
+-- a prefix of the gathered bytes was written
 pub flushes_prefix : (held : List ℕ) (a b : Option (List ℕ)) → AppendsPrefix a b held → (left : List ℕ) × Flushes held [] left a b
 flushes_prefix held a b part = (part.rest, record { gone = part.prefix; split = append-nil held ∙ part.split; appends = part.appends })
 
--- all that was gathered was
+-- all gathered bytes were written
 pub flushes_all : (held : List ℕ) (a b : Option (List ℕ)) → Appends a b held → Flushes held [] [] a b
 flushes_all held a b all = record { gone = held; split = refl; appends = all }
 
@@ -66,17 +66,17 @@ put_rest held bytes a b c first part = (
   },
 )
 
--- the delimiter before a field but the first
+-- a delimiter precedes every field but the first
 pub before_later : (d column : ℕ) → before_field d (column + 1) ≡ d ∷ []
 before_later d column =
     let later : (column + 1 == 0) ≡ false = grind arith in
     rw later refl
 
--- a piece that was held already
+-- the first part of a piece counts as new instead of gathered before
 pub flushes_held : (held part text new : List ℕ) (a b : Option (List ℕ)) → Flushes (held ++ part) text new a b → Flushes held (part ++ text) new a b
 flushes_held held part text new a b all = record { gone = all.gone; split = sym (append_assoc held part text) ∙ all.split; appends = all.appends }
 
--- and one that is held from then on
+-- the first part of a piece counts as gathered before instead of new
 pub flushes_on : (held part text new : List ℕ) (a b : Option (List ℕ)) → Flushes held (part ++ text) new a b → Flushes (held ++ part) text new a b
 flushes_on held part text new a b all = record { gone = all.gone; split = append_assoc held part text ∙ all.split; appends = all.appends }
 
@@ -147,7 +147,7 @@ module _ (A : List ℕ → AnswerText → Type 0) (keeps : Keeping) (d : ℕ) (a
     fields = fields_one some raw column count one.0 held mid one.1 a b c is before one.2;
   }
 
-  -- what is ahead was gathered, or was to be
+  -- bytes that were still to be gathered after the fields were gathered or written
   pub fields_on : (raws : List (List ℕ)) (count : ℕ) (held out part new : List ℕ) (a b c : Option (List ℕ))
       → GathersFields A keeps d asked 0 raws count held (out ++ part) a b → Flushes out part new b c → GathersFields A keeps d asked 0 raws count held new a c
   fields_on raws count held out part new a b c before last = record {

@@ -1,4 +1,4 @@
--- The names of a header, and the columns that words mean.
+-- The names of a header, and the columns that operands mean.
 use Rattle.std.proofs.Common.{◌≡◌, ◌≢◌, ◌<◌, ◌≤◌, ◌+◌, ℕ, zero, suc, List, [], ◌∷◌, ◌++◌, Bool, true, false, length, take, get_or, refl, sym, ap, ◌∙◌, inl, inr, ⊎_elim, arith, subst, set, take-suc, length-append}
 use Rattle.std.proofs.lemmas.Bool.{cases_lt}
 use Rattle.std.proofs.lemmas.List.{get_or_append_left}
@@ -25,7 +25,7 @@ unfolding raw_fields
 fields_some d place [] = omega arith
 fields_some d place (x ∷ xs) = some_by d place x xs (ends_field d place x) refl (fields_some d (within_after place x) xs)
 
--- the name is none of some names, and not the next
+-- adding a different name keeps `name` absent
 pub named_more : (name x : List ℕ) (some : List (List ℕ)) → HasNoNamed name some → x ≢ name → HasNoNamed name (some ++ x ∷ [])
 named_more name x some before other k low =
     ⊎_elim
@@ -44,7 +44,7 @@ named_at names some others x name column cut is before same = record {
       λ e. before k early (sym (get_or_append_left some (x ∷ others) [] k early) ∙ ap (λ l. get_or l k []) (sym cut) ∙ e);
 }
 
--- ---- what words mean
+-- ---- what operands mean
 found_append : (names : List (List ℕ)) (columns : List Column) (asked : List Range) (column : Column) (range : Range)
     → AreFound names columns asked → IsFound names column range → AreFound names (columns ++ column ∷ []) (asked ++ range ∷ [])
 found_append names [] [] column range before one = (one, tt)

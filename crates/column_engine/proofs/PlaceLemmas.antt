@@ -1,4 +1,4 @@
--- Bytes of a record that are passed over at once.
+-- Stretches of a record that the lexer passes over at once, and its state after them.
 use Rattle.std.proofs.Common.{◌≡◌, ◌==◌, ◌<◌, ◌≤◌, ◌+◌, ◌-◌, ℕ, zero, suc, List, [], ◌∷◌, ◌++◌, Bool, true, false, length, take, drop, get_or, refl, sym, ap, ◌∙◌, arith, if◌then◌else◌, subst}
 use Rattle.std.specs.Prelude.{⊤, ◌≢◌}
 use Rattle.std.proofs.lemmas.Bool.{eqb-true, false≢true}
@@ -10,7 +10,7 @@ use Rattle.column_engine.specs.declared.place.Place.{Place}
 use Rattle.column_engine.specs.declared.place.Place.TheVariants.{AfterQuote, Inside, Quoted, Start}
 use Rattle.column_engine.proofs.RowLemmas.{fields_from, fields_more, onto, places_append, unended_append}
 
--- between quotes
+-- between quotes, bytes that are not quotes end no record and keep the place
 pub quoted_over : (d : ℕ) (bytes : List ℕ) (k : ℕ) → HasNoBefore 34 bytes k → IsUnended d Quoted (take k bytes) × (Quoted ≡ places_after d Quoted (take k bytes))
 unfolding IsUnended places_after
 quoted_over d bytes zero none = (tt, refl)
@@ -21,7 +21,7 @@ quoted_over d (x ∷ xs) (suc k) none =
     let keeps : place_after d Quoted x ≡ Quoted = rw other refl in
     ((refl, subst (λ p. IsUnended d p (take k xs)) (sym keeps) rest.0), subst (λ p. Quoted ≡ places_after d p (take k xs)) (sym keeps) rest.1)
 
--- outside of quotes
+-- not between quotes
 pub IsOutside : Place → Type 0
 IsOutside Start = ⊤
 IsOutside Inside = ⊤
@@ -76,7 +76,7 @@ plain_over d place (x ∷ xs) (suc k) out plain =
       behind = behind_cons d place x (take k xs) ∙ subst (λ p. behind_plain d (behind_one d x) (take k xs) ≡ places_after d p (take k xs)) (sym one.1) rest.behind;
     }
 
--- some more bytes of a record
+-- the first `k` bytes, in which no record ends, lead from the place `from` to `next`
 pub record Reaches (d : ℕ) (from next : Place) (bytes : List ℕ) (k : ℕ) : Type 0 where
   pub unended : IsUnended d from (take k bytes)
   pub place_is : next ≡ places_after d from (take k bytes)
@@ -95,7 +95,7 @@ reach_all d from next bytes at is reached =
     let all = take_all at bytes (omega arith) in
     (subst (λ l. IsUnended d from l) all reached.unended, reached.place_is ∙ ap (places_after d from) all)
 
--- some more bytes of a field
+-- `k` more bytes that belong to the same field and keep its place
 pub stay_more : (d : ℕ) (place : Place) (body : List ℕ) (at k : ℕ) → at + k ≤ length body → StaysFor d place (drop at body) k
     → raw_fields d Start body ≡ onto (take at body) (raw_fields d place (drop at body))
     → raw_fields d Start body ≡ onto (take (at + k) body) (raw_fields d place (drop (at + k) body))
@@ -126,7 +126,7 @@ outside_is Inside other = tt
 outside_is AfterQuote other = tt
 outside_is Quoted other = other refl
 
--- a field without a quote first
+-- if the first byte is not a quote, the fields are the same from the place Inside
 pub first_inside : (d : ℕ) (body : List ℕ) → (get_or body 0 0 == 34) ≡ false → raw_fields d Start body ≡ raw_fields d Inside body
 unfolding raw_fields
 first_inside d [] other = refl
@@ -136,7 +136,7 @@ pub first_nothing : (d : ℕ) (body : List ℕ) → (length body == 0) ≡ true 
 first_nothing d [] none = first_inside d [] refl
 first_nothing d (b ∷ rest) none = absurd (omega (arith, eqb-true (length (b ∷ rest)) 0 none))
 
--- a field without a quote first, up to a byte
+-- the first `k` bytes, if none is a delimiter, belong to the first field, which does not start with a quote
 pub plain_field : (d : ℕ) (body : List ℕ) (k : ℕ) → k ≤ length body → HasNoBefore d body k → raw_fields d Start body ≡ raw_fields d Inside body
     → raw_fields d Start body ≡ onto (take k body) (raw_fields d Inside (drop k body))
 plain_field d body k fits none same =
@@ -150,7 +150,7 @@ quoted_stays d bytes k none = record {
   keeps = λ j low. (let other : (get_or bytes j 0 == 34) ≡ false = none j low in rw other refl);
 }
 
--- a field in quotes, up to the byte behind the second of them
+-- a quote, `k` other bytes and a quote belong to the first field
 pub quoted_field : (d : ℕ) (body : List ℕ) (k : ℕ) → 0 < length body → get_or body 0 0 ≡ 34 → (34 == d) ≡ false
     → 1 + k < length body → HasNoBefore 34 (drop 1 body) k → get_or body (1 + k) 0 ≡ 34
     → raw_fields d Start body ≡ onto (take (1 + k + 1) body) (raw_fields d AfterQuote (drop (1 + k + 1) body))
@@ -164,7 +164,7 @@ quoted_field d body k some quote other fits none close =
     subst (λ p. raw_fields d Start body ≡ onto (take (1 + k + 1) body) (raw_fields d p (drop (1 + k + 1) body))) closed
     (fields_more d Quoted body (1 + k) fits refl held)
 
--- the quote that opens a field, and bytes between quotes
+-- the quote that opens a field, and `k` bytes after it, none of which is a quote
 pub opened_over : (d : ℕ) (bytes : List ℕ) (k : ℕ) → 0 < length bytes → get_or bytes 0 0 ≡ 34 → (34 == d) ≡ false → HasNoBefore 34 (drop 1 bytes) k
     → IsUnended d Start (take (1 + k) bytes) × (Quoted ≡ places_after d Start (take (1 + k) bytes))
 unfolding IsUnended places_after

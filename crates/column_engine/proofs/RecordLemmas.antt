@@ -1,4 +1,4 @@
--- The records of a text are those that the kit's machine of CSV reads.
+-- The records of a text are those that the kit's CSV reader reads.
 use Rattle.std.proofs.Common.{◌≡◌, ◌==◌, ◌||◌, ℕ, List, [], ◌∷◌, ◌++◌, Bool, true, false, refl, sym, ap, ◌∙◌, subst, append_assoc, append-nil, arith, if◌then◌else◌, map, length, inl, inr, ◌⊎◌, ⊎_elim}
 use Rattle.std.proofs.lemmas.Bool.{eqb-true, false≢true}
 use Rattle.std.proofs.lemmas.List.{nil_from_length}
@@ -16,14 +16,14 @@ use Rattle.column_engine.specs.declared.place.Place.{Place}
 use Rattle.column_engine.specs.declared.place.Place.TheVariants.{AfterQuote, Inside, Quoted, Start}
 use Rattle.column_engine.proofs.RowLemmas.{from_never, raw_end, raw_none, raw_on}
 
--- a place in a record and a state of the machine that mean the same
+-- the place in a record and the reader's state that stand for the same
 pub Agrees : Place → State → Type 0
 Agrees Start s = s ≡ st.StartField
 Agrees Inside s = s ≡ st.InField
 Agrees Quoted s = s ≡ st.InQuoted
 Agrees AfterQuote s = s ≡ st.AfterQuote
 
--- what the machine does at a byte of a record
+-- ---- what the reader does at a byte of a record
 start_agrees : Agrees Start st.StartField
 unfolding Agrees
 start_agrees = refl
@@ -57,7 +57,7 @@ no_end false false e = (refl, refl)
 no_delimiter : (d b : ℕ) → d ≢ 34 → (b == 34) ≡ true → (b == d) ≡ false
 no_delimiter d b other is = from_never (b == d) (λ same. other (sym (eqb-true b d same) ∙ eqb-true b 34 is))
 
--- in a field, after no quote
+-- a byte inside an unquoted field
 field_steps : (d b : ℕ) (x : Bool) → (b == d) ≡ x → (b == 10) ≡ false → (b == 13) ≡ false → Ends d Inside st.InField b ⊎ (Drops d Inside st.InField b ⊎ Keeps d Inside st.InField b)
 unfolding Agrees
 field_steps d b true e n r = inl (record { ends = e; step_is = rw e refl })
@@ -107,7 +107,7 @@ steps d b AfterQuote s other agrees goes_on =
     let no = no_end (b == 10) (b == 13) goes_on in
     rw agrees (closed_steps d b (b == 34) (b == d) other refl refl no.0 no.1)
 
--- ---- fields, the first of which goes on from a place after some text
+-- ---- the texts of fields, if the first field continues `f` at the place `p`
 texts_from : Place → List ℕ → List (List ℕ) → List (List ℕ)
 texts_from p f [] = []
 texts_from p f (raw ∷ raws) = (f ++ content p raw) ∷ map (content Start) raws
@@ -151,12 +151,12 @@ on_step : (d b : ℕ) (s next : State) (action : Action) (fs : List (List ℕ)) 
 unfolding next_record
 on_step d b s next action fs f rest is goes_on = rw (is, goes_on) refl
 
--- what is read of a record that goes on so, up to its end or that of the text
+-- the reader reads the fields of `bytes` from the place `p`, ends the record in `tail` and leaves `more`
 pub ReadsAs : ℕ → Place → State → List (List ℕ) → List ℕ → List ℕ → List ℕ → State → List ℕ → Type 0
 ReadsAs d p s fs f bytes tail after more =
     next_record (reads_with d) s fs f (bytes ++ tail) ≡ Some (fs ++ texts_from p f (raw_fields d p bytes), after, more)
 
--- from the end of the record on
+-- at the place `last`, the reader ends the record in `tail` and leaves `more`
 pub EndsSo : ℕ → Place → List ℕ → State → List ℕ → Type 0
 EndsSo d last tail after more = (s : State) (fs : List (List ℕ)) (f : List ℕ) → Agrees last s
     → next_record (reads_with d) s fs f tail ≡ Some (fs ++ f ∷ [], after, more)
@@ -213,7 +213,7 @@ walk d p s after fs f (b ∷ rest) tail more other agrees unended ends = ⊎_eli
     (steps d b p s other agrees unended.0)
 
 -- ---- the ends of records
--- between two records
+-- the reader is between two records
 pub Between : State → Type 0
 Between s = (s ≡ st.StartRecord) ⊎ (s ≡ st.AfterCr)
 
@@ -229,7 +229,7 @@ unfolding Between after_line
 between_line byte true is = rw is (inr refl)
 between_line byte false is = rw is (inl refl)
 
--- the byte that ends a record, in a field
+-- a line end inside an unquoted field ends the record
 line_step : (d byte : ℕ) (y z : Bool) → d ≢ 10 → d ≢ 13 → (byte == 10) ≡ y → (byte == 13) ≡ z → (y || z) ≡ true → in_field (reads_with d) byte ≡ (after_line byte, act.EndRecord)
 unfolding after_line
 line_step d byte true z newline return y r is =
@@ -241,7 +241,7 @@ line_step d byte false true newline return y r is =
     rw (other, r) refl
 line_step d byte false false newline return y r is = absurd (false≢true is)
 
--- it is no quote
+-- a line end is not a quote
 line_quote : (byte : ℕ) (y z : Bool) → (byte == 10) ≡ y → (byte == 13) ≡ z → (y || z) ≡ true → (byte == 34) ≡ false
 line_quote byte true z y r is = ap (λ b. b == 34) (eqb-true byte 10 y)
 line_quote byte false true y r is = ap (λ b. b == 34) (eqb-true byte 13 r)
@@ -299,7 +299,7 @@ empty_record : (d byte : ℕ) (s : State) (more : List ℕ) → Between s → en
 unfolding next_record
 empty_record d byte s more between ends = rw (empty_step d byte s (byte == 10) (byte == 13) between refl refl ends) refl
 
--- ---- one record of the kit's
+-- ---- one record of the reader
 reads_fields : (d : ℕ) (body tail more : List ℕ) (s after : State) → IsDelimiter d → Between s → body ≢ [] → IsUnended d Start body
     → EndsSo d (places_after d Start body) tail after more → next_record (reads_with d) s [] [] (body ++ tail) ≡ Some (field_texts d body, after, more)
 unfolding ReadsAs Agrees
@@ -317,7 +317,7 @@ no_records : (d : ℕ) (s : State) → Between s → AreRecords (reads_with d) s
 unfolding Reached
 no_records d s between = (s, [], (refl, refl), none_left d s between)
 
--- bytes that begin no record
+-- bytes before a record that the reader skips
 skips : (d : ℕ) (s s' : State) (xs ys : List ℕ) (recs : List (List (List ℕ))) → next_record (reads_with d) s [] [] xs ≡ next_record (reads_with d) s' [] [] ys
     → AreRecords (reads_with d) s' ys recs → AreRecords (reads_with d) s xs recs
 unfolding Reached
@@ -325,7 +325,7 @@ skips d s s' xs ys [] is all =
     (s, xs, (refl, refl), is ∙ ap (λ q. next_record (reads_with d) q [] [] ys) all.2.0 ∙ ap (λ l. next_record (reads_with d) all.0 [] [] l) all.2.1 ∙ all.3)
 skips d s s' xs ys (first ∷ recs) is all = (all.0, all.1, (all.2.0, is ∙ all.2.1, all.2.2, all.2.3), all.3)
 
--- a record, and then others
+-- a record, followed by the other records
 first_of : (d : ℕ) (s after : State) (xs more : List ℕ) (fields : List (List ℕ)) (recs : List (List (List ℕ))) → next_record (reads_with d) s [] [] xs ≡ Some (fields, after, more)
     → AreRecords (reads_with d) after more recs → AreRecords (reads_with d) s xs (fields ∷ recs)
 unfolding Reached
@@ -341,7 +341,7 @@ records_none d row rows none =
     let same : (length row.body == 0) ≡ true = ap (λ l. length l == 0) none in
     rw same refl
 
--- a row with its end before others
+-- the bytes of rows that start with an ended row
 row_before : (row : Row) (rows : List Row) (byte : ℕ) → row.end ≡ byte ∷ [] → rows_text (row ∷ rows) ≡ row.body ++ (byte ∷ rows_text rows)
 row_before row rows byte is = append_assoc row.body row.end (rows_text rows) ∙ ap (λ l. row.body ++ (l ++ rows_text rows)) is
 

@@ -1,4 +1,4 @@
--- What is written for a record has its fields, with the replies in place of those that are asked for.
+-- The record written for a record has its fields, with replies in place of the requested ones.
 use Rattle.std.proofs.Common.{◌≡◌, ◌==◌, ◌||◌, ◌+◌, ℕ, List, [], ◌∷◌, ◌++◌, Bool, true, false, refl, sym, ap, ◌∙◌, subst, append-nil, arith, if◌then◌else◌, map, length, inl, inr, ◌⊎◌, length-append, get_or, zero, suc, append_assoc}
 use Rattle.std.proofs.lemmas.Bool.{eq-eqb, eqb-true, false≢true}
 use Rattle.std.specs.Prelude.{◌≢◌, ⊤, None, Option, Some}
@@ -17,7 +17,7 @@ use Rattle.column_engine.proofs.FieldsLemmas.{joined, joined_is, joined_more}
 use Rattle.column_engine.proofs.RowLemmas.{from_never, places_append, plain_first, plain_none, raw_end, raw_none, raw_on, unended_append}
 
 -- ---- the bytes of one field
--- these bytes go on with a field from a place, and end neither it nor its record
+-- `bytes` continue a field from the place `p` and do not end the field or its record
 pub IsRaw : ℕ → Place → List ℕ → Type 0
 IsRaw d p [] = ⊤
 IsRaw d p (b ∷ rest) = (ends_record p b ≡ false) × (ends_field d p b ≡ false) × IsRaw d (within_after p b) rest
@@ -29,7 +29,7 @@ raw_unended d p (b ∷ rest) is =
     let place : place_after d p b ≡ within_after p b = rw (is.1) refl in
     (is.0, subst (λ q. IsUnended d q rest) (sym place) (raw_unended d (within_after p b) rest is.2))
 
--- at the front of the first field
+-- puts `xs` at the front of the first field
 onto : List ℕ → List (List ℕ) → List (List ℕ)
 onto xs [] = []
 onto xs (f ∷ fs) = (xs ++ f) ∷ fs
@@ -57,7 +57,7 @@ unfolding onto
 raw_alone d p raw is =
     ap (raw_fields d p) (sym (append-nil raw)) ∙ raw_before d p raw [] is ∙ ap (onto raw) (raw_none d (places_after d p raw)) ∙ ap (λ l. l ∷ []) (append-nil raw)
 
--- ---- fields with delimiters between them, each but the last of which ends outside of quotes
+-- ---- fields between delimiters, each but the last ending outside quotes
 pub AreRaw : ℕ → Place → List (List ℕ) → Type 0
 AreRaw d p [] = ⊥
 AreRaw d p (raw ∷ []) = IsRaw d p raw
@@ -68,14 +68,14 @@ last_place d p [] = p
 last_place d p (raw ∷ []) = places_after d p raw
 last_place d p (raw ∷ next ∷ raws) = last_place d Start (next ∷ raws)
 
--- a byte outside of quotes
+-- a byte that ends a field is outside quotes
 outside_of : (d : ℕ) (p : Place) (b : ℕ) → ends_field d p b ≡ true → p ≢ Quoted
 outside_of d Start b is = λ e. cc e
 outside_of d Inside b is = λ e. cc e
 outside_of d AfterQuote b is = λ e. cc e
 outside_of d Quoted b is = absurd (false≢true is)
 
--- the fields of some bytes
+-- the fields of `bytes`
 pub record Cut (d : ℕ) (p : Place) (bytes : List ℕ) : Type 0 where
   pub first : List ℕ
   pub rest : List (List ℕ)
@@ -140,7 +140,7 @@ unfolding IsUnended
 cut_of d p [] unended = cut_none d p
 cut_of d p (b ∷ rest) unended = cut_one d p b rest (ends_field d p b) unended.0 refl (cut_of d (place_after d p b) rest unended.1)
 
--- and back: such fields, joined, are the fields of a record
+-- conversely, such fields, joined with delimiters, are the fields of a record
 line_goes_on : (p : Place) (b : ℕ) → (b == 10) ≡ false → (b == 13) ≡ false → ends_record p b ≡ false
 line_goes_on Start b n r = rw (n, r) refl
 line_goes_on Inside b n r = rw (n, r) refl
@@ -180,7 +180,7 @@ joins_alone d p raw is = record {
   place = ap (places_after d p) (joined_alone d raw);
 }
 
--- after a delimiter
+-- the delimiter outside quotes starts a new field of the record
 from_delimiter : (d : ℕ) (p : Place) (rest : List ℕ) → IsDelimiter d → p ≢ Quoted → IsUnended d Start rest → IsUnended d p (d ∷ rest)
 unfolding IsUnended
 from_delimiter d p rest is other unended =
@@ -217,7 +217,7 @@ joins d p (raw ∷ []) is are = joins_alone d p raw are
 joins d p (raw ∷ next ∷ raws) is are = joins_more d p raw next raws is are.0 are.1 (joins d Start (next ∷ raws) is are.2)
 
 -- ---- a text as a field
--- a byte that calls for no quotes is none of these
+-- a byte that a field may contain without quotes
 pub record IsPlain (d b : ℕ) : Type 0 where
   pub delimiter : (b == d) ≡ false
   pub quote : (b == 34) ≡ false
@@ -253,7 +253,7 @@ plain_inside d (b ∷ rest) none =
     let place : place_after d Inside b ≡ Inside = rw plain.delimiter refl in
     ((rw (plain.newline, plain.return) refl, plain.delimiter, later.0), ap (λ q. places_after d q rest) place ∙ later.1)
 
--- the bytes of a field that mean this text, and end outside of quotes
+-- the bytes `raw` are a field that encodes `text` and ends outside quotes
 pub record Means (d : ℕ) (raw text : List ℕ) : Type 0 where
   pub raw_is : IsRaw d Start raw
   pub closed : places_after d Start raw ≢ Quoted
@@ -279,7 +279,7 @@ plain_means d (b ∷ rest) some none =
       text_is = plain_first (b ∷ rest) plain.quote;
     }
 
--- between quotes
+-- the bytes after an opening quote, up to the closing one, that encode `text`
 pub record IsEscaped (d : ℕ) (raw text : List ℕ) : Type 0 where
   pub raw_is : IsRaw d Quoted raw
   pub place : places_after d Quoted raw ≡ AfterQuote
@@ -343,7 +343,7 @@ field_means d text false is e =
     let some : (length text == 0) ≡ false = or_left _ _ first in
     rw e (plain_means d text (λ none. absurd (false≢true (sym some ∙ ap (λ l. length l == 0) none))) (or_right _ _ e))
 
--- the reply to a field, in quotes or not
+-- the bytes written for a reply encode it
 written_means : (d : ℕ) (keeps : Keeping) (raw : List ℕ) (reply : AnswerText) (has : Bool) → IsDelimiter d → keeps_quotes keeps raw reply ≡ has → Means d (written_for keeps d raw reply) reply.text
 written_means d keeps raw reply true is e = rw e (quoted_means d reply.text is)
 written_means d keeps raw reply false is e = rw e (field_means d reply.text (calls_for_quotes d reply.text) is refl)
@@ -364,7 +364,7 @@ unfolding joined texts
 texts_joined d [] = refl
 texts_joined d (answer ∷ answers) = ap (λ l. answer.text ++ l) (texts_joined_more d 0 answers)
 
--- an answer to a field
+-- the bytes written for a field replace its text and keep it closed and not empty
 pub record Answered (A : List ℕ → AnswerText → Type 0) (keeps : Keeping) (d : ℕ) (asks : Bool) (raw text : List ℕ) : Type 0 where
   pub raw_is : IsRaw d Start text
   pub closed : places_after d Start raw ≢ Quoted → places_after d Start text ≢ Quoted
@@ -393,7 +393,7 @@ module _ (A : List ℕ → AnswerText → Type 0) (keeps : Keeping) (d : ℕ) wh
       rw text (record { raw_is = raw_is; closed = λ x. x; some = λ x. x; replaced = refl })
   answered true raw answer is raw_is one = replied raw one.0 answer (stays keeps one.0) is raw_is one.1 refl one.2
 
-  -- and to all
+  -- the same for all fields of a record
   pub record AllAnswered (asked : List Range) (column : ℕ) (raws news : List (List ℕ)) : Type 0 where
     pub raw : AreRaw d Start news
     pub closed : last_place d Start raws ≢ Quoted → last_place d Start news ≢ Quoted
@@ -414,7 +414,7 @@ module _ (A : List ℕ → AnswerText → Type 0) (keeps : Keeping) (d : ℕ) wh
       let others = all_answered asked (column + 1) (next ∷ raws) (more ∷ answers) is raw.2 are.1 in
       record { raw = (one.raw_is, one.closed raw.1, others.raw); closed = others.closed; replaced = (one.replaced, others.replaced) }
 
-  -- it has a byte where the record has one
+  -- the new record is not empty if the old one is not
   some_answered : (asked : List Range) (raws : List (List ℕ)) (answers : List FieldAnswer) → IsDelimiter d → AreRaw d Start raws → AreAnswers A keeps d asked 0 raws answers
       → joined d raws ≢ [] → joined d (texts answers) ≢ []
   unfolding AreRaw texts joined joined_more
@@ -427,7 +427,7 @@ module _ (A : List ℕ → AnswerText → Type 0) (keeps : Keeping) (d : ℕ) wh
   some_answered asked (first ∷ next ∷ raws) (answer ∷ more ∷ answers) is raw are some = λ e.
       absurd (omega (arith, ap length e, length-append answer.text (d ∷ more.text ++ joined_more d (texts answers))))
 
-  -- ---- a record
+  -- ---- the body of a record
   pub record NewBody (asked : List Range) (body new : List ℕ) : Type 0 where
     pub unended : IsUnended d Start new
     pub closed : places_after d Start body ≢ Quoted → places_after d Start new ≢ Quoted
@@ -452,7 +452,7 @@ module _ (A : List ℕ → AnswerText → Type 0) (keeps : Keeping) (d : ℕ) wh
             (subst (λ l. AreReplaced A keeps asked 0 (map (content Start) raws) (map (content Start) l)) (sym (ap (raw_fields d Start) text ∙ joins.fields)) all.replaced);
       }
 
--- ---- a record with one field more
+-- ---- a record with one more field
 raw_append : (d : ℕ) (p : Place) (raws : List (List ℕ)) (field : List ℕ) → AreRaw d p raws → last_place d p raws ≢ Quoted → IsRaw d Start field → AreRaw d p (raws ++ field ∷ [])
 unfolding AreRaw last_place
 raw_append d p [] field are closed one = absurd are
@@ -524,7 +524,7 @@ raw_at d p (raw ∷ []) (suc k) start are closed = no_field d
 raw_at d p (raw ∷ next ∷ raws) zero start are closed = (subst (λ q. IsRaw d q raw) start are.0, subst (λ q. places_after d q raw ≢ Quoted) start are.1)
 raw_at d p (raw ∷ next ∷ raws) (suc k) start are closed = raw_at d Start (next ∷ raws) k refl are.2 closed
 
--- each field of a record that ends outside of quotes does
+-- if a record ends outside quotes, each of its fields does
 field_raw : (d : ℕ) (body : List ℕ) (k : ℕ) → IsUnended d Start body → places_after d Start body ≢ Quoted
     → IsRaw d Start (get_or (raw_fields d Start body) k []) × (places_after d Start (get_or (raw_fields d Start body) k []) ≢ Quoted)
 field_raw d body k unended closed =
@@ -551,7 +551,7 @@ line_outside Quoted byte is = absurd (false≢true is)
 line_outside AfterQuote byte is = λ e. cc e
 
 module _ (A : List ℕ → AnswerText → Type 0) (keeps : Keeping) (d : ℕ) (columns : List Column) where
-  -- what is written for a record
+  -- the row written for a row
   pub record NewRow (s : State) (row : Row) (text : List ℕ) : Type 0 where
     pub new : Row
     pub text_is : text ≡ row_text new
@@ -562,7 +562,7 @@ module _ (A : List ℕ → AnswerText → Type 0) (keeps : Keeping) (d : ℕ) (c
   stays_row : (s : State) (row : Row) (text : List ℕ) → IsReplacedRow A keeps d s row row → text ≡ row_text row → NewRow s row text
   stays_row s row text replaced is = record { new = row; text_is = is; replaced = replaced; ended = λ x. x; last = λ x. x }
 
-  -- a record with one field more
+  -- a row with one more field
   longer_row : (s : State) (row : Row) (field text : List ℕ) → row.body ≢ [] → Longer d row.body field
       → IsRecordOf A keeps d s.asked s.headed s.into row (record { body = row.body ++ d ∷ field; end = row.end }) → text ≡ row.body ++ d ∷ field ++ row.end → NewRow s row text
   longer_row s row field text some longer is text_is = record {

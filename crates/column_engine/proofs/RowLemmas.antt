@@ -1,4 +1,4 @@
--- Places in a record, its fields, and the text of a field, one more byte at a time.
+-- The places in a record, its fields, and the text of a field, byte by byte.
 use Rattle.std.proofs.Common.{◌≡◌, ◌==◌, ◌<◌, ◌≤◌, ◌+◌, ◌-◌, ℕ, suc, List, [], ◌∷◌, ◌++◌, Bool, true, false, length, take, drop, get_or, refl, sym, ap, ◌∙◌, append_assoc, append-nil, arith, if◌then◌else◌, add-one, drop-cons, take-suc, ⊎_elim}
 use Rattle.std.proofs.lemmas.Bool.{cases_lt, eqb-true}
 use Rattle.std.proofs.lemmas.List.{take_all, drop_all, get_or-take, length-take, length-drop, take_rest}
@@ -34,7 +34,7 @@ pub unended_one : (d : ℕ) (place : Place) (x : ℕ) → ends_record place x �
 unfolding IsUnended
 unended_one d place x nay = (nay, tt)
 
--- one more byte of a record
+-- the place after one more byte of a record
 pub places_more : (d : ℕ) (from place : Place) (xs : List ℕ) (k : ℕ) → k < length xs → place ≡ places_after d from (take k xs)
     → place_after d place (get_or xs k 0) ≡ places_after d from (take (k + 1) xs)
 places_more d from place xs k low is =
@@ -46,7 +46,7 @@ unended_more d from place xs k low is nay before =
     rw (add-one, take-suc xs k 0 low) (unended_append d from (take k xs) (get_or xs k 0 ∷ []) before (unended_one d _ _ (rw (← is) nay)))
 
 -- ---- fields
--- these bytes at the front of the first field
+-- puts `xs` at the front of the first field
 pub onto : List ℕ → List (List ℕ) → List (List ℕ)
 onto xs [] = []
 onto xs (f ∷ fs) = (xs ++ f) ∷ fs
@@ -112,11 +112,11 @@ first_field d rest r within last more =
     (λ (high : length rest ≤ r). ([], last (omega arith) ∙ ap (λ l. l ∷ []) (sym (take_all r rest high))))
     (cases_lt r (length rest))
 
--- the fields so far, and one more
+-- one more field after the first fields
 pub cut_more : (all some more others : List (List ℕ)) (raw : List ℕ) → all ≡ some ++ more → more ≡ raw ∷ others → all ≡ (some ++ raw ∷ []) ++ others
 cut_more all some more others raw before is = before ∙ ap (λ l. some ++ l) is ∙ sym (append_assoc some (raw ∷ []) others)
 
--- the rest behind a field and its delimiter
+-- the bytes after a field and its delimiter
 pub rest_is : (rest : List ℕ) (end : ℕ) → take (length rest - (end + 1)) (drop (end + 1) rest) ≡ drop (end + 1) rest
 rest_is rest end = take_rest rest (end + 1)
 
@@ -139,7 +139,7 @@ kept_or_not : (drops : Bool) (place : Place) (b : ℕ) (rest : List ℕ) → len
 kept_or_not true place b rest short = omega (arith, short)
 kept_or_not false place b rest short = omega (arith, short)
 
--- a text is no longer than the bytes that mean it
+-- the text of a field is at most as long as its bytes
 pub content_short : (place : Place) (raw : List ℕ) → length (content place raw) ≤ length raw
 content_short place [] = rw (content_none place) (omega arith)
 content_short place (b ∷ rest) = rw (content_one place b rest (is_dropped place b) refl)
@@ -156,7 +156,7 @@ pub content_last : (place : Place) (raw text : List ℕ) (k : ℕ) → length ra
 content_last place raw text k high before =
     sym (before ∙ ap (λ l. text ++ content place l) (drop_all k raw high) ∙ ap (λ l. text ++ l) (content_none place) ∙ append-nil text)
 
--- a field without a quote at its start is its own text
+-- the text of a field after an unquoted start is its bytes
 inside : (xs : List ℕ) → content Inside xs ≡ xs
 unfolding content
 inside [] = refl
@@ -171,7 +171,7 @@ unfolding content
 plain_first [] nay = refl
 plain_first (x ∷ xs) nay = rw nay (ap (λ l. x ∷ l) (inside xs))
 
--- and one in quotes without one between them has what lies between
+-- the text of a quoted field without inner quotes is the bytes between its quotes
 between : (xs : List ℕ) → ((j : ℕ) → j < length xs → (get_or xs j 0 == 34) ≡ false) → content Quoted (xs ++ 34 ∷ []) ≡ xs
 unfolding content
 between [] nay = refl

@@ -1,4 +1,4 @@
--- What was taken and written by a run over a text, one chunk after another.
+-- What a run took and wrote, chunk by chunk, up to its end.
 use Rattle.std.proofs.Common.{◌≡◌, ◌<◌, ◌≤◌, List, ℕ, suc, zero, [], ◌∷◌, ◌++◌, Bool, true, false, refl, sym, ap, ◌∙◌, append_assoc, append-nil, length, take, arith, subst, Option, inl, inr, ⊎_elim, get_or}
 use Rattle.std.proofs.KnownBytes.{Appends-trans, Appends-nil, Consumes-trans}
 use Rattle.std.proofs.lemmas.Bool.{eqb-true}
@@ -12,8 +12,8 @@ use Rattle.line_engine.specs.Inner.Progress.{Flushes}
 use Rattle.column_engine.specs.Answers.{State}
 use Rattle.column_engine.specs.Feeding.{FailsFeed, FeedsRows, IsLeft, IsStanding, StopsAt}
 use Rattle.column_engine.specs.Rows.{IsLast, IsUnended, Row, byte_order_mark, ends_record, place_after, row_text, rows_text}
-use Rattle.column_engine.specs.Run.{Ends, HasFailures, IsEndless, RunsOn, RunsSoFar, RunsText, StopsText, Writes}
-use Rattle.column_engine.specs.Steps.{HasRisen, PassesRow, SameCounts, StopsRow}
+use Rattle.column_engine.specs.Run.{Ends, IsEndless, RunsOn, RunsSoFar, RunsText, StopsText, Writes}
+use Rattle.column_engine.specs.Steps.{PassesRow, SameCounts, StopsRow}
 use Rattle.column_engine.specs.declared.columns.Column.{Column}
 use Rattle.column_engine.specs.declared.columns.Keeping.{Keeping}
 use Rattle.column_engine.specs.declared.end.Stop.{Stop}
@@ -26,18 +26,8 @@ use Rattle.column_engine.proofs.FeedLemmas.{ended_append, feeds_both, feeds_none
 use Rattle.column_engine.proofs.RowLemmas.{from_never}
 use Rattle.column_engine.proofs.GatherLemmas.{all_flushes, flushes_all, flushes_both, flushes_prefix, prefix_flushes}
 
--- ---- what is written
-pub writes_all : (stop : Stop) (a b : Option (List ℕ)) (text : List ℕ) → Appends a b text → Writes stop a b text
-writes_all WriteFault a b text all = record { prefix = text; rest = []; split = sym (append-nil text); appends = all }
-writes_all Done a b text all = all
-writes_all ReadFault a b text all = all
-writes_all NoMemory a b text all = all
-writes_all TooLong a b text all = all
-writes_all Unclosed a b text all = all
-writes_all (NoColumn count) a b text all = all
-writes_all NoName a b text all = all
-
--- after more that was written before
+-- ---- the output
+-- output after earlier output
 pub writes_after : (stop : Stop) (a b c : Option (List ℕ)) (text more : List ℕ) → Appends a b text → Writes stop b c more → Writes stop a c (text ++ more)
 writes_after WriteFault a b c text more first next = record {
   prefix = text ++ next.prefix;
@@ -53,37 +43,22 @@ writes_after Unclosed a b c text more first next = Appends-trans a b c text more
 writes_after (NoColumn count) a b c text more first next = Appends-trans a b c text more first next
 writes_after NoName a b c text more first next = Appends-trans a b c text more first next
 
--- a prefix of what was gathered
+-- only a prefix of the gathered bytes was written
 pub prefix_gathered : (text left : List ℕ) (a b c : Option (List ℕ)) → Flushes [] text left a b → AppendsPrefix b c left → AppendsPrefix a c text
 prefix_gathered text left a b c first part =
     let more = flushes_prefix left b c part in
     subst (AppendsPrefix a c) (append-nil text) (prefix_flushes (text ++ []) more.0 a c (flushes_both [] text [] left more.0 a b c first more.1))
 
--- all of it
+-- all gathered bytes were written
 pub all_gathered : (text left : List ℕ) (a b c : Option (List ℕ)) → Flushes [] text left a b → Appends b c left → Appends a c text
 all_gathered text left a b c first all =
     subst (Appends a c) (append-nil text) (all_flushes (text ++ []) a c (flushes_both [] text [] left [] a b c first (flushes_all left b c all)))
 
--- ---- counts of failures
--- from a count that stayed
-pub risen_later : (stop : Stop) (start before now : ℕ) → before ≡ start → HasRisen before now stop → HasRisen start now stop
-risen_later stop start before now same first = subst (λ n. HasRisen n now stop) same first
-
+-- ---- truth values
 pub not_both : (b : Bool) → b ≡ false → b ≡ true → ⊥
 not_both b nay yea = let both : true ≡ false = sym yea ∙ nay in cc
 
--- of a run whose reads did not fail
-pub failures_risen : (stop : Stop) (read read' write write' : ℕ) → (stop ≡ ReadFault → ⊥) → read' ≡ read → HasRisen write write' stop → HasFailures read read' write write' stop
-failures_risen WriteFault read read' write write' other same risen = (same, risen)
-failures_risen Done read read' write write' other same risen = (same, risen)
-failures_risen ReadFault read read' write write' other same risen = absurd (other refl)
-failures_risen NoMemory read read' write write' other same risen = (same, risen)
-failures_risen TooLong read read' write write' other same risen = (same, risen)
-failures_risen Unclosed read read' write write' other same risen = (same, risen)
-failures_risen (NoColumn count) read read' write write' other same risen = (same, risen)
-failures_risen NoName read read' write write' other same risen = (same, risen)
-
--- ---- a byte order mark
+-- ---- the byte order mark
 plain_byte : (place : Place) (b : ℕ) → (b == 10) ≡ false → (b == 13) ≡ false → ends_record place b ≡ false
 plain_byte Start b line return = rw (line, return) refl
 plain_byte Inside b line return = rw (line, return) refl
@@ -118,7 +93,7 @@ mark_whole bytes is = is ∙ ap (λ l. byte_order_mark ++ l) (sym (mark_none byt
 pub strip_whole : (bytes : List ℕ) → ((more : List ℕ) → strip_bom (bytes ++ more) ≡ bytes ++ more) → strip_bom bytes ≡ bytes
 strip_whole bytes goes = ap strip_bom (sym (append-nil bytes)) ∙ goes [] ∙ append-nil bytes
 
--- a byte that is not the next one of a mark
+-- a text whose first, second or third byte differs from the mark has no mark
 first_other : (byte : ℕ) (more : List ℕ) → (byte == 239) ≡ false → strip_bom (byte ∷ more) ≡ byte ∷ more
 unfolding strip_bom
 first_other byte [] other = refl
@@ -143,7 +118,7 @@ other_mark (suc zero) byte start more low is other = rw is (second_other byte mo
 other_mark (suc (suc zero)) byte start more low is other = rw is (third_other byte more (differs byte 191 other))
 other_mark (suc (suc (suc k))) byte start more low is other = absurd (omega (arith, low))
 
--- ---- the ends of a text
+-- ---- how a run stops
 same_counts : (s : State) → SameCounts s s
 same_counts s = record { answered = refl; refused = refl; first = refl }
 
@@ -151,7 +126,7 @@ counts_both : (s t u : State) → SameCounts s t → SameCounts t u → SameCoun
 counts_both s t u first next = record { answered = next.answered ∙ first.answered; refused = next.refused ∙ first.refused; first = next.first ∙ first.first }
 
 module _ (A : List ℕ → AnswerText → Type 0) (keeps : Keeping) (d : ℕ) (columns : List Column) where
-  -- why the records that ended in a chunk were no longer answered
+  -- a chunk stops the run
   ends_feed : (stop : Stop) (s u : State) (rest part : List ℕ) (left : Option (List ℕ)) → StopsAt stop A keeps d columns s rest part → SameCounts s u → Ends stop A keeps d columns s rest left part u
   ends_feed WriteFault s u rest part left at counts = inr (at.0, inl (at.1.rest, at.1.split, at.1.ended), inl (at.2, counts))
   ends_feed TooLong s u rest part left at counts = (at.0, at.1, counts)
@@ -162,7 +137,7 @@ module _ (A : List ℕ → AnswerText → Type 0) (keeps : Keeping) (d : ℕ) (c
   ends_feed NoMemory s u rest part left at counts = absurd at
   ends_feed Unclosed s u rest part left at counts = absurd at
 
-  -- or a write failed after that
+  -- a chunk stops the run, and writing what it gathered then fails
   ends_fault : (stop : Stop) (s u : State) (rest part : List ℕ) (left : Option (List ℕ)) → StopsAt stop A keeps d columns s rest part → SameCounts s u → Ends WriteFault A keeps d columns s rest left part u
   ends_fault WriteFault s u rest part left at counts = ends_feed WriteFault s u rest part left at counts
   ends_fault TooLong s u rest part left at counts = inl (at.1, counts)
@@ -192,7 +167,7 @@ module _ (A : List ℕ → AnswerText → Type 0) (keeps : Keeping) (d : ℕ) (c
     output = wrote (fails.text ++ fails.part) fails.left fails.is_left fails.gathered;
   }
 
-  -- all was answered of a chunk, and written
+  -- the gathered answers of a chunk were written
   pub feeds_written : (bytes rest held : List ℕ) (s t : State) (a b c : Option (List ℕ)) → FeedsRows A keeps d columns bytes rest s t [] held a b → Appends b c held
       → FeedsRows A keeps d columns bytes rest s t [] [] a c
   feeds_written bytes rest held s t a b c fed all = record {
@@ -204,7 +179,7 @@ module _ (A : List ℕ → AnswerText → Type 0) (keeps : Keeping) (d : ℕ) (c
     gathered = subst (λ l. Flushes [] l [] a c) (append-nil fed.text) (flushes_both [] fed.text [] held [] a b c fed.gathered (flushes_all held b c all));
   }
 
-  -- or a write failed then
+  -- writing the gathered answers of a chunk failed
   pub feeds_unwritten : (bytes rest held : List ℕ) (s t : State) (left a b c : Option (List ℕ)) → FeedsRows A keeps d columns bytes rest s t [] held a b → AppendsPrefix b c held
       → StopsText WriteFault A keeps d columns [] bytes s t left a c
   feeds_unwritten bytes rest held s t left a b c fed part = record {
@@ -220,7 +195,7 @@ module _ (A : List ℕ → AnswerText → Type 0) (keeps : Keeping) (d : ℕ) (c
     output = subst (AppendsPrefix a c) (sym (append-nil fed.text)) (prefix_gathered fed.text held a b c fed.gathered part);
   }
 
-  -- the records before, and then the rest of a text
+  -- records that were answered, before a text that stops
   pub stops_after : (stop : Stop) (mark bytes rest : List ℕ) (s t u : State) (left a m b c : Option (List ℕ)) → Appends a m mark → FeedsRows A keeps d columns bytes rest s t [] [] m b
       → StopsText stop A keeps d columns [] rest t u left b c → StopsText stop A keeps d columns mark bytes s u left a c
   stops_after stop mark bytes rest s t u left a m b c marked fed stops = record {
@@ -239,7 +214,7 @@ module _ (A : List ℕ → AnswerText → Type 0) (keeps : Keeping) (d : ℕ) (c
         (writes_after stop m b c fed.text (stops.text ++ stops.part) (all_flushes fed.text m b fed.gathered) stops.output));
   }
 
-  -- ---- a run
+  -- ---- the whole run
   pub runs_end : (stop : Stop) (rest : List ℕ) (s t u : State) (left left' a b c : Option (List ℕ)) → RunsSoFar A keeps d columns rest s t left left' a b
       → StopsText stop A keeps d columns [] rest t u left' b c → RunsText stop A keeps d columns s u left left' a c
   runs_end stop rest s t u left left' a b c so_far stops = record {
@@ -310,7 +285,7 @@ module _ (A : List ℕ → AnswerText → Type 0) (keeps : Keeping) (d : ℕ) (c
         output = Appends-nil b;
       })
 
-  -- the end of a text
+  -- the input ended after the last record that ended
   pub stops_none : (kept : List ℕ) (s : State) (left a : Option (List ℕ)) → kept ≡ [] → IsAtEnd left → StopsText Done A keeps d columns [] kept s s left a a
   stops_none kept s left a none end = record {
     rows = [];
@@ -341,7 +316,7 @@ module _ (A : List ℕ → AnswerText → Type 0) (keeps : Keeping) (d : ℕ) (c
   ends_last TooLong kept s u part held' left a b last end counts other stops = absurd stops
   ends_last Unclosed kept s u part held' left a b last end counts other stops = absurd stops
 
-  -- the last record was not answered
+  -- how the last record ended the run
   stops_last_text : (stop : Stop) (kept part : List ℕ) (s u : State) (left a b : Option (List ℕ)) → Ends stop A keeps d columns s kept left part u → Writes stop a b part
       → StopsText stop A keeps d columns [] kept s u left a b
   stops_last_text stop kept part s u left a b ends wrote = record {
@@ -371,7 +346,7 @@ module _ (A : List ℕ → AnswerText → Type 0) (keeps : Keeping) (d : ℕ) (c
   stops_last TooLong kept held' s u left a b last end counts stops = absurd stops
   stops_last Unclosed kept held' s u left a b last end counts stops = absurd stops
 
-  -- or it was, and then written or not
+  -- the last record was answered, and its answer was written or a write failed
   pub stops_done : (kept held : List ℕ) (s u : State) (left a b c : Option (List ℕ)) → IsLast d (record { body = kept; end = [] }) → IsAtEnd left
       → PassesRow A keeps d columns (record { body = kept; end = [] }) s u [] held a b → Appends b c held → StopsText Done A keeps d columns [] kept s u left a c
   stops_done kept held s u left a b c last end passes all =
@@ -383,19 +358,19 @@ module _ (A : List ℕ → AnswerText → Type 0) (keeps : Keeping) (d : ℕ) (c
       stops_last_text WriteFault kept passes.text s u left a c (inr (record { body = kept; end = [] }, inr (end, refl, last), inr (u, passes.answer, same_counts u)))
       (prefix_gathered passes.text held a b c passes.gathered part)
 
-  -- at the end of the input
+  -- the read found the end of the input
   pub runs_ended : (stop : Stop) (rest chunk : List ℕ) (s t u : State) (left left' left'' a b c : Option (List ℕ)) → RunsOn A keeps d columns rest s t left left' a b
       → Consumes left' left'' chunk → chunk ≡ [] → StopsText stop A keeps d columns [] rest t u left'' b c → RunsText stop A keeps d columns s u left left'' a c
   runs_ended stop rest chunk s t u left left' left'' a b c on taken none stops =
       runs_fail stop rest [] s t u left left' left'' a b c on (subst (Consumes left' left'') none taken)
       (subst (λ l. StopsText stop A keeps d columns [] l t u left'' b c) (sym (append-nil rest)) stops)
 
-  -- no more is read of a text without an end
+  -- the text reached the longest length without an end
   pub runs_endless : (rest : List ℕ) (s t : State) (left left' a b : Option (List ℕ)) (on : RunsOn A keeps d columns rest s t left left' a b) → longest_text ≤ length on.so_far.bytes
       → IsEndless TooLong A keeps d columns s t left left' a b
   runs_endless rest s t left left' a b on many = record { is_long = refl; rest = rest; t = t; counts = same_counts t; so_far = on.so_far; many = many }
 
-  -- a read or a write did not end well: these are the stops of a chunk
+  -- a chunk never stops a run with a read failure
   pub stops_unread : (stop result : Stop) (bytes : List ℕ) (s u : State) (held held' : List ℕ) (a b : Option (List ℕ)) → FailsFeed stop A keeps d columns bytes s u held held' a b
       → (result ≡ stop) ⊎ (result ≡ WriteFault) → result ≡ ReadFault → ⊥
   stops_unread stop result bytes s u held held' a b fails (inr same) other = let both : WriteFault ≡ ReadFault = sym same ∙ other in cc
@@ -405,7 +380,7 @@ module _ (A : List ℕ → AnswerText → Type 0) (keeps : Keeping) (d : ℕ) (c
   pub row_unread : (stop : Stop) (row : Row) (s : State) (held held' : List ℕ) (a b : Option (List ℕ)) → StopsRow stop A keeps d columns row s held held' a b → stop ≡ ReadFault → ⊥
   row_unread stop row s held held' a b stops other = subst (λ k. StopsRow k A keeps d columns row s held held' a b) other stops
 
-  -- ---- the beginning of a text
+  -- ---- the start of a text
   pub begin_unread : (bytes : List ℕ) (s : State) (left left' a : Option (List ℕ)) → IsPartOfMark bytes → Consumes left left' bytes → RunsText ReadFault A keeps d columns s s left left' a a
   begin_unread bytes s left left' a part taken = record {
     bytes = bytes;
@@ -494,7 +469,7 @@ module _ (A : List ℕ → AnswerText → Type 0) (keeps : Keeping) (d : ℕ) (c
         goes_on = λ more. goes more ∙ ap (λ l. l ++ more) (sym whole);
       }
 
-  -- ---- other counts of a run
+  -- ---- equal counts
   ends_counts : (stop : Stop) (s u v : State) (rest part : List ℕ) (left : Option (List ℕ)) → SameCounts u v → Ends stop A keeps d columns s rest left part u → Ends stop A keeps d columns s rest left part v
   ends_counts Done s u v rest part left same (end, inl (none, empty, counts)) = (end, inl (none, empty, counts_both s u v counts same))
   ends_counts Done s u v rest part left same (end, inr (row, is, last, t, answer, counts)) = (end, inr (row, is, last, t, answer, counts_both t u v counts same))

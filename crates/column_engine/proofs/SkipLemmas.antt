@@ -1,25 +1,24 @@
--- The first lines of a text, one more byte at a time.
+-- The first lines of a text, passed over byte by byte.
 use Rattle.std.proofs.Common.{◌≡◌, ◌∙◌, ◌==◌, ◌+◌, ◌-◌, ◌<◌, ◌≤◌, ℕ, List, [], ◌∷◌, ◌++◌, Bool, true, false, length, length-append, get_or, if◌then◌else◌, refl, sym, ap, subst, arith, inl, inr, append-nil}
-use Rattle.std.proofs.KnownBytes.{Consumes-nil, Consumes-trans}
+use Rattle.std.proofs.KnownBytes.{Consumes-trans}
 use Rattle.std.specs.Prelude.{Option}
-use Rattle.std.specs.Io.KnownBytes.{Appends, Consumes, IsAtEnd}
+use Rattle.std.specs.Io.KnownBytes.{Appends, Consumes}
 use Rattle.std.proofs.lemmas.Bool.{eqb-true}
 use Rattle.line_engine.specs.Inner.Progress.{Flushes}
 use Rattle.line_engine.specs.Output.{AppendsPrefix}
 use Rattle.column_engine.specs.Passing.{IsPassing}
-use Rattle.column_engine.specs.Skip.{AreWhole, HasRunAfter, PassesLines, StopsLines, newlines}
+use Rattle.column_engine.specs.Skip.{AreWhole, HasRunAfter, StopsLines, newlines}
 use Rattle.column_engine.specs.Answers.{State}
 use Rattle.column_engine.specs.Steps.{SameCounts}
 use Rattle.column_engine.specs.declared.columns.Column.{Column}
 use Rattle.column_engine.specs.declared.columns.Keeping.{Keeping}
 use Rattle.column_engine.specs.declared.end.Stop.{Stop}
-use Rattle.column_engine.specs.Limits.{longest_text}
 use Rattle.line_engine.specs.AnswerText.{AnswerText}
 use Rattle.column_engine.proofs.RunLemmas.{run_counts}
-use Rattle.column_engine.specs.declared.end.Stop.TheVariants.{ReadFault, TooLong, WriteFault}
-use Rattle.column_engine.proofs.GatherLemmas.{all_flushes, flushes_all, flushes_both, flushes_none, flushes_prefix, prefix_flushes}
+use Rattle.column_engine.specs.declared.end.Stop.TheVariants.{WriteFault}
+use Rattle.column_engine.proofs.GatherLemmas.{all_flushes, flushes_all, flushes_both, flushes_prefix, prefix_flushes}
 
--- how many newlines a byte is
+-- 1 for a newline, 0 for any other byte
 abbrev newline_of : ℕ → ℕ
 newline_of byte = if byte == 10 then 1 else 0
 
@@ -27,7 +26,7 @@ newlines_more : (bytes : List ℕ) (byte : ℕ) → newlines (bytes ++ byte ∷ 
 newlines_more [] byte = omega arith
 newlines_more (b ∷ bytes) byte = omega (arith, newlines_more bytes byte)
 
--- the last byte
+-- the last byte of a list that ends with this byte
 last_is : (bytes : List ℕ) (byte : ℕ) → get_or (bytes ++ byte ∷ []) (length (bytes ++ byte ∷ []) - 1) 0 ≡ byte
 last_is bytes byte =
     let place : length (bytes ++ byte ∷ []) - 1 ≡ length bytes = omega (arith, length-append bytes (byte ∷ [])) in
@@ -37,7 +36,7 @@ last_is bytes byte =
     middle [] b = refl
     middle (x ∷ xs) b = middle xs b
 
--- a write failed, after these bytes
+-- a write failed; these bytes were taken
 pub stops_write : (count : ℕ) (bytes left-over : List ℕ) (left left' a c : Option (List ℕ)) → Consumes left left' bytes → newlines bytes ≤ count
     → Flushes [] bytes left-over a c → StopsLines WriteFault count left left' a c
 stops_write count bytes left-over left left' a c taken few gathered = record {
@@ -53,7 +52,7 @@ newlines_both : (xs ys : List ℕ) → newlines (xs ++ ys) ≡ newlines xs + new
 newlines_both [] ys = omega arith
 newlines_both (x ∷ xs) ys = omega (arith, newlines_both xs ys)
 
--- what is gathered of a line that has not ended has no newline
+-- a byte that is not a newline leaves the gathered bytes without a newline
 pub still_plain : (held held' : List ℕ) (byte : ℕ) (a b : Option (List ℕ)) → (byte == 10) ≡ false → Flushes held (byte ∷ []) held' a b
     → newlines held ≡ 0 → newlines held' ≡ 0
 still_plain held held' byte a b other gathered plain =
@@ -63,7 +62,7 @@ still_plain held held' byte a b other gathered plain =
     let same : newlines (held ++ byte ∷ []) ≡ newlines (gathered.gone ++ held') = ap newlines gathered.split in
     omega (arith, none, one, both, same, plain)
 
--- the bytes that were taken by the time that a write of one more failed
+-- writing one more byte failed: the bytes taken include it
 pub broken : (count lines byte : ℕ) (held held' : List ℕ) (left left' left'' a b c : Option (List ℕ))
     → 0 < lines → IsPassing count lines held left left' a b → Consumes left' left'' (byte ∷ [])
     → Flushes held (byte ∷ []) held' b c → StopsLines WriteFault count left left'' a c
@@ -80,7 +79,7 @@ broken count lines byte held held' left left' left'' a b c some so_far taken gat
         → newlines (so_far.bytes ++ byte ∷ []) ≤ count
     at_most b one as_many = omega (arith, one, as_many, some, bit (byte == 10))
 
--- the same where what was gathered could not be written
+-- writing the gathered bytes failed, with no new byte
 pub unflushed : (count lines : ℕ) (held : List ℕ) (left left' left'' a b c : Option (List ℕ)) → IsPassing count lines held left left' a b
     → Consumes left' left'' [] → AppendsPrefix b c held → StopsLines WriteFault count left left'' a c
 unflushed count lines held left left' left'' a b c so_far taken part =
@@ -89,17 +88,7 @@ unflushed count lines held left left' left'' a b c so_far taken part =
     (rw append-nil (omega (arith, so_far.as_many)))
     (flushes_both [] so_far.bytes [] held rest.0 a b c so_far.gathered rest.1)
 
-pub passing_none : (count : ℕ) (left written : Option (List ℕ)) → IsPassing count count [] left left written written
-passing_none count left written = record {
-  bytes = [];
-  taken = Consumes-nil left;
-  gathered = flushes_none [] written;
-  plain = refl;
-  as_many = omega arith;
-  whole = λ none. inl refl;
-}
-
--- one more byte
+-- a newline lowers the count of lines left by one, and another byte keeps it
 pub counts_more : (count lines : ℕ) (bytes : List ℕ) (byte : ℕ) (ends : Bool) → (byte == 10) ≡ ends → 0 < lines → newlines bytes + lines ≡ count
     → newlines (bytes ++ byte ∷ []) + (if ends then lines - 1 else lines) ≡ count
 counts_more count lines bytes byte true is some as_many = let more = newlines_more bytes byte in let one : newlines (bytes ++ byte ∷ []) ≡ newlines bytes + 1 = more ∙ ap (λ e. newlines bytes + (if e then 1 else 0)) is in omega (arith, one, some, as_many)
@@ -123,57 +112,12 @@ passing_more count lines after byte held held' left left' left'' a b c some is b
   whole = λ none. whole_more lines before.bytes byte (byte == 10) refl some (sym is ∙ none);
 }
 
--- all that was gathered is written
+-- all gathered bytes were written
 shown : (bytes held : List ℕ) (a b c : Option (List ℕ)) → Flushes [] bytes held a b → Appends b c held → Appends a c bytes
 shown bytes held a b c gathered wrote =
     subst (λ l. Appends a c l) (append-nil bytes)
     (all_flushes (bytes ++ []) a c (flushes_both [] bytes [] held [] a b c gathered (flushes_all held b c wrote)))
 
--- all lines were passed
-pub passes_all : (count lines : ℕ) (held : List ℕ) (left left' a b c : Option (List ℕ)) → lines ≡ 0 → IsPassing count lines held left left' a b
-    → Appends b c held → PassesLines count left left' a c
-passes_all count lines held left left' a b c none so_far wrote = record {
-  bytes = so_far.bytes;
-  taken = so_far.taken;
-  wrote = shown so_far.bytes held a b c so_far.gathered wrote;
-  first = inl (omega (arith, so_far.as_many, none), so_far.whole none);
-}
-
--- or the text ended
-pub passes_text : (count lines : ℕ) (held : List ℕ) (left left' left'' a b c : Option (List ℕ)) → 0 < lines → IsPassing count lines held left left' a b
-    → Consumes left' left'' [] → IsAtEnd left'' → Appends b c held → PassesLines count left left'' a c
-passes_text count lines held left left' left'' a b c some so_far more end wrote = record {
-  bytes = so_far.bytes ++ [];
-  taken = Consumes-trans left left' left'' so_far.bytes [] so_far.taken more;
-  wrote = rw append-nil (shown so_far.bytes held a b c so_far.gathered wrote);
-  first = inr (rw append-nil (omega (arith, so_far.as_many, some)), end);
-}
-
--- a read failed
-pub stops_read : (count lines : ℕ) (held : List ℕ) (left left' left'' a b : Option (List ℕ)) → IsPassing count lines held left left' a b
-    → Consumes left' left'' [] → StopsLines ReadFault count left left'' a b
-stops_read count lines held left left' left'' a b so_far kept = record {
-  bytes = so_far.bytes ++ [];
-  taken = Consumes-trans left left' left'' so_far.bytes [] so_far.taken kept;
-  few = rw append-nil (omega (arith, so_far.as_many));
-  shown = so_far.gathered.gone;
-  why = (held, append-nil so_far.bytes ∙ so_far.gathered.split, so_far.plain);
-  output = so_far.gathered.appends;
-}
-
--- the lines have no end
-pub stops_long : (count lines : ℕ) (held : List ℕ) (left left' a b c : Option (List ℕ)) (so_far : IsPassing count lines held left left' a b)
-    → longest_text ≤ length so_far.bytes → Appends b c held → StopsLines TooLong count left left' a c
-stops_long count lines held left left' a b c so_far many wrote = record {
-  bytes = so_far.bytes;
-  taken = so_far.taken;
-  few = omega (arith, so_far.as_many);
-  shown = so_far.bytes;
-  why = (many, refl);
-  output = shown so_far.bytes held a b c so_far.gathered wrote;
-}
-
--- a run whose counts are these
 same_counts : (s t u : State) → SameCounts s t → SameCounts t u → SameCounts s u
 same_counts s t u first next = record {
   answered = next.answered ∙ first.answered;

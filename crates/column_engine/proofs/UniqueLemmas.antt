@@ -1,4 +1,4 @@
--- Records, and the answers to them, are the ones.
+-- A text determines its records, and a rule with one reply for each text determines the output for them.
 use Rattle.std.proofs.Common.{◌≡◌, ◌<◌, ◌≤◌, ◌+◌, ℕ, List, [], ◌∷◌, ◌++◌, Bool, true, false, refl, sym, ap, ◌∙◌, subst, append_assoc, append-nil, arith, if◌then◌else◌, length, inl, inr, ◌⊎◌, ⊎_elim, get_or, length-append}
 use Rattle.std.proofs.lemmas.Bool.{cases_lt, false≢true}
 use Rattle.std.specs.Prelude.{Option, Some, None, string_bytes}
@@ -17,7 +17,7 @@ use Rattle.column_engine.specs.declared.columns.Range.{Range}
 use Rattle.column_engine.specs.declared.place.Place.{Place}
 use Rattle.column_engine.specs.declared.place.Place.TheVariants.{Start}
 
--- ---- the columns that words mean
+-- ---- the columns that operands mean
 first_one : (name : List ℕ) (names : List (List ℕ)) (a b : ℕ) → IsFirstNamed name names a → IsFirstNamed name names b → a ≡ b
 first_one name names a b first next = ⊎_elim
     (λ (low : a < b). absurd (next.first a low first.named))
@@ -131,7 +131,7 @@ module _ (A : List ℕ → AnswerText → Type 0) (one : (field : List ℕ) (a b
 pub answers_are_the_one : (A : List ℕ → AnswerText → Type 0) → ((field : List ℕ) (a b : AnswerText) → A field a → A field b → a ≡ b) → AnswersAreTheOne A
 answers_are_the_one A one keeps d columns s rows a b t u first next = rows_one A one keeps d columns s t u rows a b first next
 
--- ---- the records of a text
+-- ---- the first record of a text
 pub head_is : (x y : ℕ) (xs ys : List ℕ) → x ∷ xs ≡ y ∷ ys → x ≡ y
 head_is x y xs ys e = ap (λ l. get_or l 0 0) e
 
@@ -143,7 +143,7 @@ pub tail_is : (x y : ℕ) (xs ys : List ℕ) → x ∷ xs ≡ y ∷ ys → xs �
 unfolding tail_of
 tail_is x y xs ys e = ap tail_of e
 
--- the bytes up to the end of a record
+-- two splits of the same bytes at the end of the first record agree
 pub record SameEnd (body body' more more' : List ℕ) (byte byte' : ℕ) : Type 0 where
   pub bodies : body ≡ body'
   pub ends : byte ≡ byte'
@@ -167,7 +167,7 @@ end_one d p (b ∷ body) (b' ∷ body') more more' byte byte' first next ends en
 pub row_is : (a b : Row) → a.body ≡ b.body → a.end ≡ b.end → a ≡ b
 row_is a b body end = ap (λ l. record a { body = l }) body ∙ ap (λ l. record b { end = l }) end
 
--- a record that ended, and what follows it
+-- bytes that start with a record that ended determine that record and the bytes after it
 pub first_row_one : (d : ℕ) (row row' : Row) (more more' : List ℕ) → IsEnded d row → IsEnded d row' → row_text row ++ more ≡ row_text row' ++ more' → (row ≡ row') × (more ≡ more')
 first_row_one d row row' more more' ended ended' e =
     let first : row_text row ++ more ≡ row.body ++ ended.byte ∷ more = append_assoc row.body row.end more ∙ ap (λ l. row.body ++ (l ++ more)) ended.is_end in
@@ -175,7 +175,7 @@ first_row_one d row row' more more' ended ended' e =
     let same = end_one d Start row.body row'.body more more' ended.byte ended'.byte ended.unended ended'.unended ended.ends ended'.ends (sym first ∙ e ∙ next) in
     (row_is row row' same.bodies (ended.is_end ∙ ap (λ b. b ∷ []) same.ends ∙ sym ended'.is_end), same.rests)
 
--- bytes in which no record ends have none at their front
+-- if bytes are unended, no record ends in them
 no_row : (d : ℕ) (p : Place) (body more : List ℕ) (byte : ℕ) → ends_record (places_after d p body) byte ≡ true → IsUnended d p (body ++ byte ∷ more) → ⊥
 unfolding IsUnended places_after
 no_row d p [] more byte ends unended = false≢true (sym unended.0 ∙ ends)
@@ -202,7 +202,7 @@ splits_one d rest rest' (row ∷ rows) (row' ∷ rows') ended ended' unended une
 pub rows_are_the_ones : RowsAreTheOnes
 rows_are_the_ones d text rest rest' rows rows' ended ended' unended unended' is is' = splits_one d rest rest' rows rows' ended ended' unended unended' (sym is ∙ is')
 
--- ---- runs to the end of a text
+-- ---- runs to the end of a text, and their output
 counts_one : (s t u : State) → SameCounts s t → SameCounts s u → SameCounts t u
 counts_one s t u first next = record {
   answered = next.answered ∙ sym first.answered;
@@ -213,10 +213,6 @@ counts_one s t u first next = record {
 pub left_cancel : (xs ys zs : List ℕ) → xs ++ ys ≡ xs ++ zs → ys ≡ zs
 left_cancel [] ys zs e = e
 left_cancel (x ∷ xs) ys zs e = left_cancel xs ys zs (tail_is x x (xs ++ ys) (xs ++ zs) e)
-
-length_zero : (xs : List ℕ) → length xs ≡ 0 → xs ≡ []
-length_zero [] e = refl
-length_zero (x ∷ xs) e = absurd (omega (arith, e))
 
 pub right_cancel : (xs ys zs : List ℕ) → xs ++ zs ≡ ys ++ zs → xs ≡ ys
 right_cancel [] [] zs e = refl

@@ -1,4 +1,4 @@
--- What is written for the records of a text, some of whose columns are answered by a rule.
+-- The output for the records of a text, some of whose columns a rule answers.
 use Rattle.std.specs.Prelude.{◌==◌, ◌&&◌, ◌||◌, ◌≡◌, ◌≢◌, ◌⊎◌, ◌<◌, ◌≤◌, ◌+◌, ◌-◌, ◌^◌, ◌++◌, ⊤, ℕ, List}
 use Rattle.std.specs.Prelude.{[], ◌∷◌, Bool, true, false, not, Option, Some, None, get_or, if◌then◌else◌, length, max}
 use Rattle.std.specs.Prelude.{min, nat_le, string_bytes}
@@ -14,63 +14,62 @@ use Rattle.column_engine.specs.declared.columns.Range.{Range}
 use Rattle.column_engine.specs.declared.place.Place.TheVariants.{Start}
 use Rattle.column_engine.specs.Limits.{longest_record}
 
--- ---- which columns are asked for
+-- ---- the requested columns
 
--- whether a range has a column
+-- whether a range contains a column
 abbrev pub is_within : ℕ → Range → Bool
 is_within column range = nat_le range.from column && nat_le column range.to
 
--- whether one of these ranges has a column
+-- whether one of these ranges contains a column
 abbrev pub is_asked : List Range → ℕ → Bool
 is_asked [] column = false
 is_asked (range ∷ ranges) column = is_within column range || is_asked ranges column
 
--- how many fields a record must have for a range: none where it goes on to the last field, whichever that is
+-- how many fields a record must have for a range: 0 if the range goes on to the last field
 abbrev pub needed_for : Range → ℕ
 needed_for range = if range.to == 2 ^ 64 - 1 then 0 else range.to + 1
 
--- and for all of these ranges
+-- how many fields a record must have for all of these ranges
 abbrev pub needed : List Range → ℕ
 needed [] = 0
 needed (range ∷ ranges) = max (needed_for range) (needed ranges)
 
--- the first column that is asked for
+-- the first requested column
 abbrev pub first_asked : List Range → ℕ
 first_asked [] = 0
 first_asked (range ∷ ranges) = range.from
 
--- the name of the new column that the answers go to, where they do not go to the place of their fields
+-- the name of the new column for the answers, unless they replace their fields
 abbrev pub name_of : Destination → Option (List ℕ)
 name_of InPlace = None
 name_of (NewColumn name) = Some name
 
--- the first of these names that is this one
+-- `place` is the index of the first of these names that equals `name`
 pub record IsFirstNamed (name : List ℕ) (names : List (List ℕ)) (place : ℕ) : Type 0 where
   pub there : place < length names
   pub named : get_or names place [] ≡ name
   pub first : (k : ℕ) → k < place → get_or names k [] ≢ name
 
--- none of these names is this one
+-- none of these names equals `name`
 abbrev pub HasNoNamed : List ℕ → List (List ℕ) → Type 0
 HasNoNamed name names = (k : ℕ) → k < length names → get_or names k [] ≢ name
 
--- the columns that a word means among the names of a header, of which there are none without one: a range, or the
--- first column
--- that is named so, and else the range that the name is read as
+-- the columns that an operand means, for the names of the header (none without a header): a range; or the first column
+-- of that name, else the range that the name reads as
 abbrev pub IsFound : List (List ℕ) → Column → Range → Type 0
 IsFound names (At range) found = found ≡ range
 IsFound names (Named name range) found =
     (IsFirstNamed (string_bytes name) names found.from × (found.to ≡ found.from))
     ⊎ (HasNoNamed (string_bytes name) names × (range ≡ Some found))
 
--- and those that each word means
+-- the columns that each operand means
 abbrev pub AreFound : List (List ℕ) → List Column → List Range → Type 0
 AreFound names [] [] = ⊤
 AreFound names [] (range ∷ ranges) = ⊥
 AreFound names (column ∷ columns) [] = ⊥
 AreFound names (column ∷ columns) (range ∷ ranges) = IsFound names column range × AreFound names columns ranges
 
--- a word that means no column
+-- an operand that means no column
 abbrev pub IsMissing : List (List ℕ) → Column → Type 0
 IsMissing names (At range) = ⊥
 IsMissing names (Named name range) = HasNoNamed (string_bytes name) names × (range ≡ None)
@@ -81,8 +80,8 @@ AnyMissing names (column ∷ columns) = IsMissing names column ⊎ AnyMissing na
 
 -- ---- the answer to a record
 
--- a text as a field: in quotes, as csv writes them, where it has a byte that calls for them, is empty, or begins like
--- a byte order mark
+-- a text as a field: in quotes, as CSV writes them, if a byte requires them, if it is empty or if it starts like a byte
+-- order mark
 abbrev pub calls_for_quotes : ℕ → List ℕ → Bool
 calls_for_quotes delimiter text = (length text == 0) || (get_or text 0 0 == 239) || needs_quotes (record
     default_writer { delimiter = delimiter }) text
@@ -93,26 +92,25 @@ in_quotes delimiter text = quoted (record default_writer { delimiter = delimiter
 abbrev pub as_field : ℕ → List ℕ → List ℕ
 as_field delimiter text = if calls_for_quotes delimiter text then in_quotes delimiter text else text
 
--- what is written for a field, and whether it was refused
+-- the bytes written for a field, and whether it was refused
 pub record FieldAnswer : Type 0 where
   pub text : List ℕ
   pub refused : Bool
 
--- whether a field stays as it was: by a reply without a byte, and where it is refused and refused fields are kept
+-- whether a field stays as it was: if the reply is empty, or if it is refused and refused fields are kept
 abbrev pub stays : Keeping → AnswerText → Bool
 stays keeps reply = (keeps.refused && reply.fault) || (length reply.text == 0)
 
--- whether the reply to a field is written in quotes because the field has them: if these are kept and it is no refusal
+-- whether the reply to a field is quoted because the field is: if quotes are kept and the reply is not a refusal
 abbrev pub keeps_quotes : Keeping → List ℕ → AnswerText → Bool
 keeps_quotes keeps raw reply = (keeps.quotes && not reply.fault) && (get_or raw 0 0 == 34)
 
--- the reply to a field as a field
+-- the reply to a field, written as a field
 abbrev pub written_for : Keeping → ℕ → List ℕ → AnswerText → List ℕ
 written_for keeps delimiter raw reply = if keeps_quotes keeps raw reply then in_quotes delimiter reply.text
     else as_field delimiter reply.text
 
--- the bytes of a field that is not asked for stay; those of one that is are replaced by the reply to its text, by
--- this meaning of a reply, or stay
+-- an unrequested field keeps its bytes; a requested one gets the reply, by the meaning `A`, to its text, or stays
 abbrev pub IsAnswer : (List ℕ → AnswerText → Type 0) → Keeping → ℕ → Bool → List ℕ → FieldAnswer → Type 0
 IsAnswer A keeps delimiter false raw answer = answer ≡ record { text = raw; refused = false }
 IsAnswer A keeps delimiter true raw answer = (reply : AnswerText) × A (content Start raw) reply
@@ -122,7 +120,7 @@ IsAnswer A keeps delimiter true raw answer = (reply : AnswerText) × A (content 
           reply.fault;
     })
 
--- these fields, the first of which is in this column, have these answers
+-- these are the answers to these fields, from column `column` on
 abbrev pub AreAnswers : (List ℕ → AnswerText → Type 0) → Keeping → ℕ → List Range → ℕ → List (List ℕ) → List FieldAnswer
     → Type 0
 AreAnswers A keeps delimiter asked column [] [] = ⊤
@@ -132,11 +130,11 @@ AreAnswers A keeps delimiter asked column (raw ∷ raws) (answer ∷ answers) =
     IsAnswer A keeps delimiter (is_asked asked column) raw answer × AreAnswers A keeps delimiter asked (column + 1)
     raws answers
 
--- the delimiter before each field but the first
+-- the delimiter before every field but the first
 abbrev pub before_field : ℕ → ℕ → List ℕ
 before_field delimiter column = if column == 0 then [] else delimiter ∷ []
 
--- the text of these fields, the first of which is in this column
+-- the text of these fields, from column `column` on
 abbrev pub answers_text : ℕ → ℕ → List FieldAnswer → List ℕ
 answers_text delimiter column [] = []
 answers_text delimiter column (answer ∷ answers) = before_field delimiter column ++ answer.text ++ answers_text
@@ -149,9 +147,8 @@ count_refused (answer ∷ answers) = (if answer.refused then 1 else 0) + count_r
 
 -- ---- the answers to the records of a text
 
--- between two records: whether the next one is the header, and else the columns that are asked for; the name of the new
--- column, where the answers go to one; how many records were answered, a header too, and how many fields refused; and
--- the number of the first record one of whose fields was, 0 where there is none
+-- between two records: whether a header comes next, the requested columns, the name of the new column, if any, the
+-- counts of answered records (with the header) and refused fields, and the first record with a refusal, or 0
 pub record State : Type 0 where
   pub headed : Bool
   pub asked : List Range
@@ -164,7 +161,7 @@ pub record State : Type 0 where
 abbrev pub counted : ℕ → ℕ → ℕ
 counted a b = min (a + b) (2 ^ 64 - 1)
 
--- after one more record, this many of whose fields were refused
+-- the state after one more record, with this many refused fields
 abbrev pub one_more : State → ℕ → State
 one_more s refused = record s {
   answered = counted s.answered 1;
@@ -172,12 +169,13 @@ one_more s refused = record s {
   first = if (s.first == 0) && not (refused == 0) then counted s.answered 1 else s.first;
 }
 
--- what follows the bytes of a header: the name of the new column, where there is one
+-- the bytes after a header: the name of the new column, if any
 abbrev pub new_name : ℕ → Option (List ℕ) → List ℕ
 new_name delimiter None = []
 new_name delimiter (Some name) = delimiter ∷ as_field delimiter name
 
--- the header: it says which columns are asked for, and is written as it is, but for the name of a new column
+-- the header, which determines the requested columns, is written as it is, with the name of the new column added if
+-- there is one
 pub record PassesHeader (delimiter : ℕ) (columns : List Column) (s : State) (row : Row) (text : List ℕ) (t : State) :
     Type 0 where
   pub next : s.headed ≡ true
@@ -188,7 +186,7 @@ pub record PassesHeader (delimiter : ℕ) (columns : List Column) (s : State) (r
   pub text_is : text ≡ row.body ++ new_name delimiter s.into ++ row.end
   pub after : t ≡ one_more (record s { headed = false; asked = found }) 0
 
--- a record: the answers to its fields, and the byte that ends it
+-- a record: the answers to its fields, and its end
 pub record AnswersFields (A : List ℕ → AnswerText → Type 0) (keeps : Keeping) (delimiter : ℕ) (s : State) (row : Row)
     (text : List ℕ) (t : State) : Type 0 where
   pub known : s.headed ≡ false
@@ -200,7 +198,7 @@ pub record AnswersFields (A : List ℕ → AnswerText → Type 0) (keeps : Keepi
   pub text_is : text ≡ answers_text delimiter 0 answers ++ row.end
   pub after : t ≡ one_more s (count_refused answers)
 
--- a record with a new column: its bytes, the answer to the first column that is asked for, and the byte that ends it
+-- a record with a new column: its bytes, the answer to the first requested column, and its end
 pub record AppendsField (A : List ℕ → AnswerText → Type 0) (keeps : Keeping) (delimiter : ℕ) (s : State) (row : Row)
     (text : List ℕ) (t : State) : Type 0 where
   pub known : s.headed ≡ false
@@ -214,7 +212,7 @@ pub record AppendsField (A : List ℕ → AnswerText → Type 0) (keeps : Keepin
   pub text_is : text ≡ row.body ++ delimiter ∷ answer.text ++ row.end
   pub after : t ≡ one_more s (if answer.refused then 1 else 0)
 
--- an empty line stays
+-- an empty line stays as it is
 pub record PassesEmpty (s : State) (row : Row) (text : List ℕ) (t : State) : Type 0 where
   pub empty : row.body ≡ []
   pub text_is : text ≡ row.end
@@ -226,7 +224,7 @@ AnswersRow A keeps delimiter columns s row text t =
     PassesEmpty s row text t ⊎ ((row.body ≢ []) × (PassesHeader delimiter columns s row text t
     ⊎ (AnswersFields A keeps delimiter s row text t ⊎ AppendsField A keeps delimiter s row text t)))
 
--- this text is written for these records
+-- the text is the output for these records
 abbrev pub AnswersRows : (List ℕ → AnswerText → Type 0) → Keeping → ℕ → List Column → State → List Row → List ℕ → State
     → Type 0
 AnswersRows A keeps delimiter columns s [] text t = (text ≡ []) × (t ≡ s)

@@ -1,4 +1,4 @@
--- How a text begins.
+-- The start of a text.
 use Rattle.std.specs.Prelude.{◌≡◌, ◌<◌, ◌++◌, ℕ, List, [], ◌∷◌, Option, Some, None, take}
 use Rattle.std.specs.Io.KnownBytes.{IsAtEnd}
 use Rattle.csv.specs.Reading.{strip_bom}
@@ -6,16 +6,16 @@ use Rattle.column_engine.specs.Rows.{byte_order_mark}
 use Rattle.column_engine.specs.declared.begin.Start.{Start}
 use Rattle.column_engine.specs.declared.begin.Start.TheVariants.{Ended, Marked, Other}
 
--- the byte that a read gave, where it gave one
+-- the byte that a read gave, if any
 abbrev pub given : Option ℕ → List ℕ
 given None = []
 given (Some byte) = byte ∷ []
 
--- the first bytes of a byte order mark, but not all
+-- a proper prefix of a byte order mark
 abbrev pub IsPartOfMark : List ℕ → Type 0
 IsPartOfMark bytes = (k : ℕ) × (k < 3) × (bytes ≡ take k byte_order_mark)
 
--- what the first bytes of a text are
+-- what each kind of start says of the first bytes of a text
 abbrev pub Begins : Start → List ℕ → Option (List ℕ) → Type 0
 Begins Marked bytes left = bytes ≡ byte_order_mark
 Begins Ended bytes left = IsPartOfMark bytes × IsAtEnd left

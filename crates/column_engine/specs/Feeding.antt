@@ -1,5 +1,5 @@
--- What the next bytes of a text make of the records that were answered and of the bytes that are kept.
-use Rattle.std.specs.Prelude.{◌≡◌, ◌<◌, ◌+◌, ◌++◌, ℕ, Bool, List, [], length, take}
+-- The effect of the next bytes of a text on the records answered and the bytes kept.
+use Rattle.std.specs.Prelude.{◌≡◌, ◌<◌, ◌+◌, ◌++◌, ℕ, List, [], length, take}
 use Rattle.std.specs.declared.option.Option.{Option}
 use Rattle.line_engine.specs.AnswerText.{AnswerText}
 use Rattle.line_engine.specs.Inner.Progress.{Flushes}
@@ -15,7 +15,7 @@ use Rattle.column_engine.specs.declared.place.Place.{Place}
 use Rattle.column_engine.specs.declared.place.Place.TheVariants.{Start}
 use Rattle.column_engine.specs.Limits.{longest_record}
 
--- these bytes are kept of a record that has not ended, and this is the place after them
+-- `kept` are the bytes of a record that has not ended, and `place` is the place after them
 pub record IsStanding (delimiter : ℕ) (kept : List ℕ) (place : Place) : Type 0 where
   pub unended : IsUnended delimiter Start kept
   pub place_is : place ≡ places_after delimiter Start kept
@@ -31,18 +31,18 @@ pub record FeedsRows (A : List ℕ → AnswerText → Type 0) (keeps : Keeping) 
   pub answers : AnswersRows A keeps delimiter columns s rows text t
   pub gathered : Flushes held text held' written written'
 
--- more bytes than a record has, and no record ends before those
+-- the bytes are longer than the longest record, and no record ends within that length
 pub record IsTooLong (delimiter : ℕ) (bytes : List ℕ) : Type 0 where
   pub many : longest_record < length bytes
   pub unended : IsUnended delimiter Start (take (longest_record + 1) bytes)
 
--- a record that ended, at the start of these bytes
+-- these bytes start with a record that ended
 pub record BeginsWith (delimiter : ℕ) (row : Row) (bytes : List ℕ) : Type 0 where
   pub rest : List ℕ
   pub split : bytes ≡ row_text row ++ rest
   pub ended : IsEnded delimiter row
 
--- why no more records were answered of a text that goes on so, and what of the next record was to be written
+-- why no more records were answered of these bytes, and what was to be written of the next record
 abbrev pub StopsAt : Stop → (List ℕ → AnswerText → Type 0) → Keeping → ℕ → List Column → State → List ℕ → List ℕ
     → Type 0
 StopsAt TooLong A keeps delimiter columns s bytes part = IsTooLong delimiter bytes × (part ≡ [])
@@ -57,7 +57,7 @@ StopsAt ReadFault A keeps delimiter columns s bytes part = ⊥
 StopsAt NoMemory A keeps delimiter columns s bytes part = ⊥
 StopsAt Unclosed A keeps delimiter columns s bytes part = ⊥
 
--- all of this is gathered, unless a write failed
+-- all of these bytes are gathered, unless a write failed
 abbrev pub IsLeft : Stop → List ℕ → List ℕ → Type 0
 IsLeft WriteFault left held = Unit {0}
 IsLeft TooLong left held = left ≡ held
@@ -68,7 +68,7 @@ IsLeft ReadFault left held = ⊥
 IsLeft NoMemory left held = ⊥
 IsLeft Unclosed left held = ⊥
 
--- the first of the records that end in these bytes were answered, and then no more
+-- the first of the records that end in these bytes were answered, and no more
 pub record FailsFeed (stop : Stop) (A : List ℕ → AnswerText → Type 0) (keeps : Keeping) (delimiter : ℕ) (columns : List
     Column) (bytes : List ℕ) (s t : State)
     (held held' : List ℕ) (written written' : Option (List ℕ)) : Type 0 where

@@ -13,16 +13,16 @@ use Rattle.column_engine.specs.declared.columns.Keeping.{Keeping}
 use Rattle.column_engine.specs.declared.columns.Range.{Range}
 use Rattle.column_engine.specs.declared.place.Place.TheVariants.{Start}
 
--- what is written for a field that is not asked for
+-- the output for an unrequested field
 abbrev pub unanswered : List ℕ → FieldAnswer
 unanswered raw = record { text = raw; refused = false }
 
--- this column and no other
+-- this column only
 abbrev pub only : ℕ → List Range
 only column = record { from = column; to = column } ∷ []
 
--- the field in this column lies between these places of a record, after the bytes of those before it and before the
--- bytes of those behind it
+-- the field in column `column` is the bytes from `start` to `end` of the record; the fields before it end at `start`,
+-- and those after it begin at `end`
 pub record IsFieldAt (delimiter : ℕ) (body : List ℕ) (column start end : ℕ) : Type 0 where
   pub ordered : start ≤ end
   pub within : end ≤ length body
@@ -33,11 +33,11 @@ pub record IsFieldAt (delimiter : ℕ) (body : List ℕ) (column start end : ℕ
   pub before : take start body ≡ answers_text delimiter 0 (map unanswered some) ++ before_field delimiter column
   pub after : drop end body ≡ answers_text delimiter (column + 1) (map unanswered more)
 
--- what was gathered, and after it the bytes of a record from one place to another, which are still to be
+-- the gathered bytes, followed by the bytes of a record from index `from` to `to`, which are still to be gathered
 abbrev pub ahead : List ℕ → List ℕ → ℕ → ℕ → List ℕ
 ahead held body from to = held ++ take (to - from) (drop from body)
 
--- the bytes that are written for a field, by where they lie: its own, those of the reply, or those written out
+-- the bytes written for a field: its own, the reply's, or the reply as a field
 abbrev pub shown_bytes : Shown → List ℕ → List ℕ → List ℕ → List ℕ
 shown_bytes Raw raw reply text = raw
 shown_bytes Reply raw reply text = reply
@@ -51,7 +51,7 @@ pub record GathersField (A : List ℕ → AnswerText → Type 0) (keeps : Keepin
   pub answer : IsAnswer A keeps delimiter asks raw (record { text = text; refused = refused })
   pub gathered : Flushes held text held' written written'
 
--- the answer to a field that is asked for was, after these bytes
+-- the answer to a requested field was gathered, after the bytes `before`
 pub record GathersAnswer (A : List ℕ → AnswerText → Type 0) (keeps : Keeping) (delimiter : ℕ) (before raw : List ℕ)
     (refused : Bool)
     (held held' : List ℕ) (written written' : Option (List ℕ)) : Type 0 where
@@ -59,7 +59,7 @@ pub record GathersAnswer (A : List ℕ → AnswerText → Type 0) (keeps : Keepi
   pub answer : IsAnswer A keeps delimiter true raw (record { text = text; refused = refused })
   pub gathered : Flushes held (before ++ text) held' written written'
 
--- the answers to these fields were
+-- the answers to these fields were gathered
 pub record GathersFields (A : List ℕ → AnswerText → Type 0) (keeps : Keeping) (delimiter : ℕ) (asked : List Range)
     (column : ℕ) (raws : List (List ℕ)) (refused : ℕ)
     (held held' : List ℕ) (written written' : Option (List ℕ)) : Type 0 where
@@ -68,7 +68,7 @@ pub record GathersFields (A : List ℕ → AnswerText → Type 0) (keeps : Keepi
   pub refused_is : refused ≡ count_refused answers
   pub gathered : Flushes held (answers_text delimiter column answers) held' written written'
 
--- the answers to the first of these fields, or to all, were to be written, and a write failed
+-- the answers to the first of these fields, or to all of them, were to be written when a write failed
 pub record GathersPart (A : List ℕ → AnswerText → Type 0) (keeps : Keeping) (delimiter : ℕ) (asked : List Range) (raws :
     List (List ℕ))
     (held : List ℕ) (written written' : Option (List ℕ)) : Type 0 where

@@ -18,43 +18,42 @@ use Rattle.column_engine.specs.declared.end.Stop.TheVariants.{Done, NoMemory}
 use Rattle.column_engine.specs.declared.place.Place.TheVariants.{Start}
 use Rattle.column_engine.specs.Limits.{longest_text}
 
--- a byte that is no quote and no end of a line
+-- a byte that is not a quote and does not end a line
 pub record IsDelimiter (delimiter : ℕ) : Type 0 where
   pub no_quote : delimiter ≢ 34
   pub no_newline : delimiter ≢ 10
   pub no_return : delimiter ≢ 13
 
--- how the kit's reader of CSV reads with this byte between fields
+-- the configuration of the kit's CSV reader for this delimiter
 abbrev pub reads_with : ℕ → Config
 reads_with delimiter = record default_config { delimiter = delimiter }
 
--- all of a text: records and empty lines that ended, and the last record may have no end
+-- all of a text: records and empty lines that ended, except that the last record may have no end
 abbrev pub AreRows : ℕ → List Row → Type 0
 AreRows delimiter [] = ⊤
 AreRows delimiter (row ∷ rows) = (IsEnded delimiter row × AreRows delimiter rows) ⊎ (IsLast delimiter row
     × (rows ≡ []))
 
--- the texts of the fields of each record; an empty line is none
+-- the texts of the fields of each record, without the empty lines
 abbrev pub records_of : ℕ → List Row → List (List (List ℕ))
 records_of delimiter [] = []
 records_of delimiter (row ∷ rows) =
     if length row.body == 0 then records_of delimiter rows
     else field_texts delimiter row.body ∷ records_of delimiter rows
 
--- the records of a text, by their places in it, are those that the kit's reader of CSV reads
+-- the records of a text, by their places in it, are those that the kit's CSV reader reads
 abbrev pub RecordsAreTheKits : Type 0
 RecordsAreTheKits = (delimiter : ℕ) (rows : List Row) → IsDelimiter delimiter → AreRows delimiter rows
     → AreRecords (reads_with delimiter) StartRecord (rows_text rows) (records_of delimiter rows)
 
--- a reply without a byte leaves a field as it was, and so does a refusal where refused fields are kept; else the reply
--- is the field's text
+-- `new` is the reply to a requested field's text; an empty reply leaves the text as it was, and so does a refusal if
+-- refused fields are kept
 abbrev pub IsReplaced : (List ℕ → AnswerText → Type 0) → Keeping → Bool → List ℕ → List ℕ → Type 0
 IsReplaced A keeps false text new = new ≡ text
 IsReplaced A keeps true text new = (reply : AnswerText) × A text reply
     × (new ≡ (if stays keeps reply then text else reply.text))
 
--- the texts of these fields, the first of which is in this column, are those of other fields but where they are asked
--- for
+-- `news` are these texts, from column `column` on, replaced in the requested columns only
 abbrev pub AreReplaced : (List ℕ → AnswerText → Type 0) → Keeping → List Range → ℕ → List (List ℕ) → List (List ℕ)
     → Type 0
 AreReplaced A keeps asked column [] [] = ⊤
@@ -63,14 +62,13 @@ AreReplaced A keeps asked column (text ∷ texts) [] = ⊥
 AreReplaced A keeps asked column (text ∷ texts) (new ∷ news) = IsReplaced A keeps (is_asked asked column) text new
     × AreReplaced A keeps asked (column + 1) texts news
 
--- a record with one field more, whose text is this
+-- `new` is the record with one more field, of this text
 pub record IsLonger (delimiter : ℕ) (row new : Row) (text : List ℕ) : Type 0 where
   pub end : new.end ≡ row.end
   pub texts : field_texts delimiter new.body ≡ field_texts delimiter row.body ++ text ∷ []
 
--- what becomes of a record, by whether it is the header, and by the name of the new column where there is one: the
--- header stays, or has the name as one field more; another record has the replies in its fields, or the reply to one as
--- one field more
+-- the record written for a record: the header stays, or has the name of the new column as one more field; another
+-- record has the replies in its fields, or one reply as one more field
 abbrev pub IsRecordOf : (List ℕ → AnswerText → Type 0) → Keeping → ℕ → List Range → Bool → Option (List ℕ) → Row → Row
     → Type 0
 IsRecordOf A keeps delimiter asked true None row new = new ≡ row
@@ -81,7 +79,7 @@ IsRecordOf A keeps delimiter asked false (Some name) row new = (text : List ℕ)
     × IsReplaced A keeps true (get_or (field_texts delimiter row.body) (first_asked asked) []) text
     × IsLonger delimiter row new text
 
--- an empty line stays
+-- an empty line stays as it is; another record is replaced
 abbrev pub IsReplacedRow : (List ℕ → AnswerText → Type 0) → Keeping → ℕ → State → Row → Row → Type 0
 IsReplacedRow A keeps delimiter s row new = ((row.body ≡ []) × (new ≡ row))
     ⊎ ((row.body ≢ []) × IsRecordOf A keeps delimiter s.asked s.headed s.into row new)
@@ -95,8 +93,8 @@ AreReplacedRows A keeps delimiter columns s (row ∷ rows) (new ∷ news) t = (b
     × AnswersRow A keeps delimiter columns s row (row_text new) between × IsReplacedRow A keeps delimiter s row new
     × AreReplacedRows A keeps delimiter columns between rows news t
 
--- what is written for the records of a text has as many records, with the same fields but for the replies, which are in
--- place of fields or one field more, and each keeps its end
+-- the output for the records of a text has as many records, with the same ends and the same fields, except that replies
+-- replace fields or are one more field
 abbrev pub FieldsAreReplaced : (List ℕ → AnswerText → Type 0) → Type 0
 FieldsAreReplaced A = (keeps : Keeping) (delimiter : ℕ) (columns : List Column) (s t : State) (rows : List Row)
     (text : List ℕ) → IsDelimiter delimiter → AreRows delimiter rows
@@ -104,24 +102,24 @@ FieldsAreReplaced A = (keeps : Keeping) (delimiter : ℕ) (columns : List Column
     → (news : List Row) × (text ≡ rows_text news) × AreRows delimiter news
     × AreReplacedRows A keeps delimiter columns s rows news t
 
--- by a rule of one reply, at most one text is written for records, and one state follows
+-- by a rule with one reply for each text, records have at most one output and one state after them
 abbrev pub AnswersAreTheOne : (List ℕ → AnswerText → Type 0) → Type 0
 AnswersAreTheOne A = (keeps : Keeping) (delimiter : ℕ) (columns : List Column) (s : State) (rows : List Row)
     (a b : List ℕ) (t u : State) → AnswersRows A keeps delimiter columns s rows a t
     → AnswersRows A keeps delimiter columns s rows b u → (a ≡ b) × (t ≡ u)
 
--- the records that end in a text, and what follows the last of them, are the ones
+-- the records that end in a text, and the bytes after the last of them, are determined
 abbrev pub RowsAreTheOnes : Type 0
 RowsAreTheOnes = (delimiter : ℕ) (text rest rest' : List ℕ) (rows rows' : List Row) → AreEnded delimiter rows
     → AreEnded delimiter rows' → IsUnended delimiter Start rest → IsUnended delimiter Start rest'
     → text ≡ rows_text rows ++ rest → text ≡ rows_text rows' ++ rest' → (rows ≡ rows') × (rest ≡ rest')
 
--- the lines that a run passes over, and what follows them, are the ones
+-- the lines that a run passes over, and the bytes after them, are determined
 abbrev pub LinesAreTheOnes : Type 0
 LinesAreTheOnes = (count : ℕ) (bytes bytes' rest rest' : List ℕ) → bytes ++ rest ≡ bytes' ++ rest'
     → AreFirst count bytes (Some rest) → AreFirst count bytes' (Some rest') → (bytes ≡ bytes') × (rest ≡ rest')
 
--- a text has at most one output of a run to its end, with the counts
+-- a run to the end of a text has at most one output, with its counts
 abbrev pub OutputIsTheOne : (List ℕ → AnswerText → Type 0) → Type 0
 OutputIsTheOne A = (skipped : ℕ) (keeps : Keeping) (delimiter : ℕ) (columns : List Column) (s t u : State)
     (input left left' before a b : List ℕ)
@@ -129,8 +127,8 @@ OutputIsTheOne A = (skipped : ℕ) (keeps : Keeping) (delimiter : ℕ) (columns 
     → HasRunAfter skipped Done A keeps delimiter columns s u (Some input) (Some left') (Some before) (Some b)
     → (a ≡ b) × SameCounts t u
 
--- while the counts of failures can rise, they say with what was taken of a text how its run ended that found memory,
--- for a text of fewer bytes than a run takes
+-- the bytes taken and the counts of failures determine the end of a run over a text shorter than the longest, if the
+-- counts can rise and memory sufficed
 abbrev pub RunEndIsTheOne : (List ℕ → AnswerText → Type 0) → Type 0
 RunEndIsTheOne A = (skipped : ℕ) (keeps : Keeping) (delimiter : ℕ) (columns : List Column) (s t u : State)
     (input left before a b : List ℕ) (read read' write write' : ℕ) (stop other : Stop) → length input < longest_text

@@ -5,7 +5,7 @@ use Rattle.std.specs.Io.KnownBytes.{Consumes}
 use Rattle.line_engine.specs.Inner.Progress.{Flushes}
 use Rattle.column_engine.specs.Skip.{AreWhole, newlines}
 
--- some bytes were taken, and written, or gathered where their line has not ended; of this many lines these are left
+-- the bytes taken were written, or gathered if their line has not ended; `lines` of the `count` lines are left
 pub record IsPassing (count lines : ℕ) (held : List ℕ) (left left' written written' : Option (List ℕ)) : Type 0 where
   pub bytes : List ℕ
   pub taken : Consumes left left' bytes

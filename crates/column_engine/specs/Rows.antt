@@ -1,11 +1,11 @@
--- The records and fields of a text of CSV, by their places in it, with this byte between fields.
+-- The records and fields of a CSV text, by their places in it, with this delimiter between fields.
 use Rattle.std.specs.Prelude.{◌==◌, ◌||◌, ◌≡◌, ◌≢◌, ◌++◌, ⊤, ℕ, List, [], ◌∷◌, Bool, true, false, flat_map}
 use Rattle.std.specs.Prelude.{if◌then◌else◌, map}
 use Rattle.line_engine.specs.Lines.{onto_first}
 use Rattle.column_engine.specs.declared.place.Place.{Place}
 use Rattle.column_engine.specs.declared.place.Place.TheVariants.{AfterQuote, Inside, Quoted, Start}
 
--- whether a byte ends a record: the end of a line, outside of quotes
+-- whether a byte ends a record: a line end outside of quotes
 abbrev pub ends_record : Place → ℕ → Bool
 ends_record Start byte = (byte == 10) || (byte == 13)
 ends_record Inside byte = (byte == 10) || (byte == 13)
@@ -30,7 +30,7 @@ within_after AfterQuote byte = if byte == 34 then Quoted else Inside
 abbrev pub place_after : ℕ → Place → ℕ → Place
 place_after delimiter place byte = if ends_field delimiter place byte then Start else within_after place byte
 
--- after some bytes of a record
+-- the place after some bytes of a record
 unfoldable pub places_after : ℕ → Place → List ℕ → Place
 places_after delimiter place [] = place
 places_after delimiter place (byte ∷ rest) = places_after delimiter (place_after delimiter place byte) rest
@@ -41,7 +41,7 @@ IsUnended delimiter place [] = ⊤
 IsUnended delimiter place (byte ∷ rest) = (ends_record place byte ≡ false) × IsUnended delimiter (place_after
     delimiter place byte) rest
 
--- the bytes of each field of a record, its quotes too
+-- the bytes of each field of a record, with its quotes
 unfoldable pub raw_fields : ℕ → Place → List ℕ → List (List ℕ)
 raw_fields delimiter place [] = [] ∷ []
 raw_fields delimiter place (byte ∷ rest) =
@@ -55,7 +55,7 @@ is_dropped Inside byte = false
 is_dropped Quoted byte = byte == 34
 is_dropped AfterQuote byte = false
 
--- the text that the bytes of a field mean
+-- the text that the bytes of a field encode
 unfoldable pub content : Place → List ℕ → List ℕ
 content place [] = []
 content place (byte ∷ rest) = if is_dropped place byte then content (within_after place byte) rest else byte ∷ content
@@ -65,8 +65,7 @@ content place (byte ∷ rest) = if is_dropped place byte then content (within_af
 abbrev pub field_texts : ℕ → List ℕ → List (List ℕ)
 field_texts delimiter body = map (content Start) (raw_fields delimiter Start body)
 
--- a record as it lies in its text, which may be an empty line, and the byte that ends it, which the last one of a
--- text may lack
+-- a record's bytes and its end; it may be an empty line, and the last record of a text may lack the end
 pub record Row : Type 0 where
   pub body : List ℕ
   pub end : List ℕ
@@ -85,7 +84,7 @@ abbrev pub AreEnded : ℕ → List Row → Type 0
 AreEnded delimiter [] = ⊤
 AreEnded delimiter (row ∷ rows) = IsEnded delimiter row × AreEnded delimiter rows
 
--- a last record without an end, which is not empty, and outside of quotes
+-- a last record without an end, not empty and not inside quotes
 pub record IsLast (delimiter : ℕ) (row : Row) : Type 0 where
   pub unended : IsUnended delimiter Start row.body
   pub some : row.body ≢ []

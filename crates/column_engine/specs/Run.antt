@@ -23,13 +23,14 @@ use Rattle.column_engine.specs.declared.end.Stop.TheVariants.{Unclosed, WriteFau
 use Rattle.column_engine.specs.declared.place.Place.TheVariants.{Quoted, Start}
 use Rattle.column_engine.specs.Limits.{longest_record, longest_text}
 
--- the columns that a word means without a header; for a name that is no number the first one, until a header is read
+-- the columns that an operand means without a header; a name that is not a number means the first column until a header
+-- is read
 abbrev pub first_range : Column → Range
 first_range (At range) = range
 first_range (Named name (Some range)) = range
 first_range (Named name None) = record { from = 0; to = 0 }
 
--- before the first record
+-- the state before the first record
 abbrev pub first_state : Bool → Destination → List Column → State
 first_state headed destination columns = record {
   headed = headed;
@@ -40,7 +41,7 @@ first_state headed destination columns = record {
   first = 0;
 }
 
--- what is counted at the end of a run
+-- the counts at the end of a run
 abbrev pub counts_of : ColumnEnd → State
 counts_of end = record {
   headed = false;
@@ -51,14 +52,13 @@ counts_of end = record {
   first = end.first;
 }
 
--- the next record of these bytes, which are the rest of those that were taken: one that ended, or at the end of the
--- input the last one
+-- the next record of the bytes `rest`: one that ended or, at the end of the input, the last one
 abbrev pub IsNext : ℕ → Row → List ℕ → Option (List ℕ) → Type 0
 IsNext delimiter row rest left =
     ((more : List ℕ) × (rest ≡ row_text row ++ more) × IsEnded delimiter row) ⊎ (IsAtEnd left × (rest ≡ row.body)
     × IsLast delimiter row)
 
--- the last record was answered, where there is one
+-- the last record was answered, if there is one
 abbrev pub AnswersLast : (List ℕ → AnswerText → Type 0) → Keeping → ℕ → List Column → State → List ℕ → List ℕ → State
     → Type 0
 AnswersLast A keeps delimiter columns s rest part u =
@@ -66,7 +66,7 @@ AnswersLast A keeps delimiter columns s rest part u =
     ⊎ ((row : Row) × (rest ≡ row.body) × IsLast delimiter row × (t : State) × AnswersRow A keeps delimiter columns s
     row part t × SameCounts t u)
 
--- some of a record was to be written, or all of it
+-- part of the next record was to be written, or all of it, or nothing
 abbrev pub WritesNext : (List ℕ → AnswerText → Type 0) → Keeping → ℕ → List Column → State → List ℕ → Option (List ℕ)
     → List ℕ → State → Type 0
 WritesNext A keeps delimiter columns s rest left part u =
@@ -80,9 +80,7 @@ RefusesNext stop delimiter columns s rest left part u =
     (row : Row) × IsNext delimiter row rest left × IsUnanswered stop delimiter columns s row × (part ≡ [])
     × SameCounts s u
 
--- after some records, why no more were answered of the bytes that were taken, which go on so, and what of the next
--- record was to be
--- written
+-- why no more records were answered of the bytes `rest`, and what was to be written of the next record
 abbrev pub Ends : Stop → (List ℕ → AnswerText → Type 0) → Keeping → ℕ → List Column → State → List ℕ → Option (List ℕ)
     → List ℕ → State → Type 0
 Ends Done A keeps delimiter columns s rest left part u = IsAtEnd left × AnswersLast A keeps delimiter columns s rest
@@ -99,7 +97,7 @@ Ends (NoColumn count) A keeps delimiter columns s rest left part u = RefusesNext
     rest left part u
 Ends NoName A keeps delimiter columns s rest left part u = RefusesNext NoName delimiter columns s rest left part u
 
--- all of a text was written, or a prefix where a write failed
+-- all of a text was written or, if a write failed, a prefix of it
 abbrev pub Writes : Stop → Option (List ℕ) → Option (List ℕ) → List ℕ → Type 0
 Writes WriteFault old new text = AppendsPrefix old new text
 Writes Done old new text = Appends old new text
@@ -110,7 +108,7 @@ Writes Unclosed old new text = Appends old new text
 Writes (NoColumn count) old new text = Appends old new text
 Writes NoName old new text = Appends old new text
 
--- the first records of these bytes were answered, after something else that was written, and then no more
+-- the first records of these bytes were answered, after `before` was written, and no more
 pub record StopsText (stop : Stop) (A : List ℕ → AnswerText → Type 0) (keeps : Keeping) (delimiter : ℕ) (columns : List
     Column) (before bytes : List ℕ) (s u : State)
     (left written written' : Option (List ℕ)) : Type 0 where
@@ -125,8 +123,8 @@ pub record StopsText (stop : Stop) (A : List ℕ → AnswerText → Type 0) (kee
   pub ends : Ends stop A keeps delimiter columns between rest left part u
   pub output : Writes stop written written' (before ++ (text ++ part))
 
--- of the bytes that were taken, a byte order mark was written, and the first records of those after it were answered,
--- and then no more
+-- a byte order mark, if the bytes taken start with one, was written, and the first records after it were answered, and
+-- no more
 pub record RunsText (stop : Stop) (A : List ℕ → AnswerText → Type 0) (keeps : Keeping) (delimiter : ℕ) (columns : List
     Column) (s u : State)
     (left left' written written' : Option (List ℕ)) : Type 0 where
@@ -136,8 +134,7 @@ pub record RunsText (stop : Stop) (A : List ℕ → AnswerText → Type 0) (keep
   pub mark_is : bytes ≡ mark ++ strip_bom bytes
   pub stops : StopsText stop A keeps delimiter columns mark (strip_bom bytes) s u left' written written'
 
--- of the bytes that were taken, a byte order mark was written, and the records of those after it that ended were
--- answered
+-- a byte order mark, if the bytes taken start with one, was written, and the records after it that ended were answered
 pub record RunsSoFar (A : List ℕ → AnswerText → Type 0) (keeps : Keeping) (delimiter : ℕ) (columns : List Column)
     (rest : List ℕ) (s t : State)
     (left left' written written' : Option (List ℕ)) : Type 0 where
@@ -149,14 +146,14 @@ pub record RunsSoFar (A : List ℕ → AnswerText → Type 0) (keeps : Keeping) 
   pub marked : Appends written between mark
   pub fed : FeedsRows A keeps delimiter columns (strip_bom bytes) rest s t [] [] between written'
 
--- and no byte order mark can be made of the next bytes
+-- the same, and no more bytes can complete a byte order mark at the start
 pub record RunsOn (A : List ℕ → AnswerText → Type 0) (keeps : Keeping) (delimiter : ℕ) (columns : List Column) (rest :
     List ℕ) (s t : State)
     (left left' written written' : Option (List ℕ)) : Type 0 where
   pub so_far : RunsSoFar A keeps delimiter columns rest s t left left' written written'
   pub goes_on : (more : List ℕ) → strip_bom (so_far.bytes ++ more) ≡ strip_bom so_far.bytes ++ more
 
--- a text that has no end among so many bytes
+-- a text without an end in the bytes taken, which are at least as many as the longest text has
 pub record IsEndless (stop : Stop) (A : List ℕ → AnswerText → Type 0) (keeps : Keeping) (delimiter : ℕ) (columns : List
     Column) (s u : State)
     (left left' written written' : Option (List ℕ)) : Type 0 where
@@ -167,7 +164,7 @@ pub record IsEndless (stop : Stop) (A : List ℕ → AnswerText → Type 0) (kee
   pub so_far : RunsSoFar A keeps delimiter columns rest s t left left' written written'
   pub many : longest_text ≤ length so_far.bytes
 
--- what a run that ended so, with these counts, took and wrote
+-- what a run with this end and these counts took and wrote
 abbrev pub HasRun : Stop → (List ℕ → AnswerText → Type 0) → Keeping → ℕ → List Column → State → State → Option (List ℕ)
     → Option (List ℕ)
     → Option (List ℕ) → Option (List ℕ) → Type 0
@@ -175,7 +172,7 @@ HasRun stop A keeps delimiter columns s u left left' written written' =
     RunsText stop A keeps delimiter columns s u left left' written written' ⊎ IsEndless stop A keeps delimiter columns
     s u left left' written written'
 
--- which counts of failures of the source and the sink rose by the time a run ended so
+-- which counts of failures, of the source and of the sink, rose in a run with this end
 abbrev pub HasFailures : ℕ → ℕ → ℕ → ℕ → Stop → Type 0
 HasFailures read read' write write' Done = (read' ≡ read) × (write' ≡ write)
 HasFailures read read' write write' ReadFault = HasFailed read read' × (write' ≡ write)

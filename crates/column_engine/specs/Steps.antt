@@ -1,5 +1,5 @@
 -- How far a text was answered, and why no further.
-use Rattle.std.specs.Prelude.{◌≡◌, ◌≢◌, ◌⊎◌, ◌<◌, ◌≤◌, ◌++◌, ℕ, Bool, true, false, List, [], length}
+use Rattle.std.specs.Prelude.{◌≡◌, ◌≢◌, ◌⊎◌, ◌<◌, ◌≤◌, ◌++◌, ℕ, true, false, List, [], length}
 use Rattle.std.specs.Prelude.{None, Result, OnOk, IfErr}
 use Rattle.std.specs.declared.option.Option.{Option}
 use Rattle.line_engine.specs.AnswerText.{AnswerText}
@@ -18,7 +18,7 @@ use Rattle.column_engine.specs.declared.place.Place.TheVariants.{Start}
 use Rattle.column_engine.specs.Limits.{longest_record}
 use Rattle.column_engine.specs.declared.row.Progress.{Progress}
 
--- at a failed write the count of failures rose, and else it is as it was
+-- the count of failures rose if a write failed, and is otherwise unchanged
 abbrev pub HasRisen : ℕ → ℕ → Stop → Type 0
 HasRisen before now WriteFault = HasFailed before now
 HasRisen before now (NoColumn count) = now ≡ before
@@ -29,7 +29,7 @@ HasRisen before now NoMemory = now ≡ before
 HasRisen before now TooLong = now ≡ before
 HasRisen before now Unclosed = now ≡ before
 
--- what is seen of a progress
+-- the visible state of a progress
 abbrev pub state_of : Progress → State
 state_of p = record {
   headed = p.is_headed;
@@ -41,12 +41,12 @@ state_of p = record {
       p.first;
 }
 
--- a record has no column that is asked for, but only this many
+-- the record lacks a requested column: it has only `count` fields
 pub record LacksColumn (delimiter : ℕ) (asked : List Range) (row : Row) (count : ℕ) : Type 0 where
   pub count_is : count ≡ length (raw_fields delimiter Start row.body)
   pub few : count < needed asked
 
--- no empty line, and at most as many bytes as a record has
+-- not an empty line, and at most as long as the longest record
 pub record IsRecord (row : Row) : Type 0 where
   pub some : row.body ≢ []
   pub short : length row.body ≤ longest_record
@@ -71,7 +71,7 @@ pub record IsHeader (delimiter : ℕ) (columns : List Column) (body : List ℕ) 
   pub are_found : AreFound (field_texts delimiter body) columns found
   pub enough : needed found ≤ length (raw_fields delimiter Start body)
 
--- and one that has not
+-- a header that lacks one of the columns
 abbrev pub IsNoHeader : Stop → ℕ → List Column → List ℕ → Type 0
 IsNoHeader (NoColumn count) delimiter columns body =
     (found : List Range) × AreFound (field_texts delimiter body) columns found × LacksColumn delimiter found (record {
@@ -86,7 +86,7 @@ IsNoHeader NoMemory delimiter columns body = ⊥
 IsNoHeader TooLong delimiter columns body = ⊥
 IsNoHeader Unclosed delimiter columns body = ⊥
 
--- only the columns that are asked for changed
+-- only the requested columns changed
 pub record SameButAsked (old new : Progress) : Type 0 where
   pub headed : new.is_headed ≡ old.is_headed
   pub answered : new.answered ≡ old.answered
@@ -95,18 +95,18 @@ pub record SameButAsked (old new : Progress) : Type 0 where
   pub as_many : length new.asked.items ≡ length old.asked.items
   pub destination : new.destination.now ≡ old.destination.now
 
--- the counts are as they were
+-- the counts are unchanged
 pub record SameCounts (old new : State) : Type 0 where
   pub answered : new.answered ≡ old.answered
   pub refused : new.refused ≡ old.refused
   pub first : new.first ≡ old.first
 
--- a count of failures rose just where a write failed
+-- a count of failures rose if and only if a write failed
 pub record RisesOnly (before now : ℕ) (result : Result (Unit {0}) Stop) : Type 0 where
   pub same : OnOk result (now ≡ before)
   pub stops : IfErr result (λ stop. HasRisen before now stop)
 
--- the answers to the first of the fields of a record
+-- the answers to the first fields of a record
 pub record IsPartOfFields (A : List ℕ → AnswerText → Type 0) (keeps : Keeping) (delimiter : ℕ) (asked : List Range)
     (raws : List (List ℕ)) (text : List ℕ) : Type 0 where
   pub some : List (List ℕ)
@@ -116,7 +116,7 @@ pub record IsPartOfFields (A : List ℕ → AnswerText → Type 0) (keeps : Keep
   pub are : AreAnswers A keeps delimiter asked 0 some answers
   pub text_is : text ≡ answers_text delimiter 0 answers
 
--- what was to be written for a record, or for the first of its fields
+-- what was to be written for a record, or for its first fields
 abbrev pub IsRowPart : (List ℕ → AnswerText → Type 0) → Keeping → ℕ → List Column → State → Row → List ℕ → Type 0
 IsRowPart A keeps delimiter columns s row text =
     ((t : State) × AnswersRow A keeps delimiter columns s row text t)
@@ -131,7 +131,7 @@ pub record PassesRow (A : List ℕ → AnswerText → Type 0) (keeps : Keeping) 
   pub answer : AnswersRow A keeps delimiter columns s row text t
   pub gathered : Flushes held text held' written written'
 
--- or it was not, or not to its end
+-- the answer to a record, or part of it, was to be written when a write failed
 pub record FailsRow (A : List ℕ → AnswerText → Type 0) (keeps : Keeping) (delimiter : ℕ) (columns : List Column) (row :
     Row) (s : State)
     (held : List ℕ) (written written' : Option (List ℕ)) : Type 0 where

@@ -16,41 +16,41 @@ use fixed_steps::Steps;
 use line_engine::Output;
 use std::sync::ledger::Ledger;
 
-/// What of a text is answered, and how.
+/// Which fields of a text to answer, and how.
 #[derive(Drop)]
 pub struct ColumnTask<'a, A> {
-    /// What answers a field.
+    /// The rule that answers a field.
     pub rule: &'a A,
-    /// How many lines come before the records; they are passed through.
+    /// The number of lines before the records; they are passed through.
     pub skipped: u64,
-    /// Which columns are asked for.
+    /// The requested columns.
     pub columns: &'a [Column],
     /// Where the answers go.
     pub destination: &'a Destination,
     /// Whether the first record is a header, which is passed through.
     pub has_header: bool,
-    /// What of a field is kept.
+    /// What is kept of a field.
     pub keeps: Keeping,
-    /// The byte between fields: an ASCII character that is no quote and no end of a line.
+    /// The byte between fields: an ASCII character other than a quote, a line feed or a carriage return.
     pub delimiter: u8,
-    /// What is kept to be reported.
+    /// What is kept for reports.
     pub watch: &'a ColumnWatch,
 }
 
-/// Room for the answer to a field, and the output that is gathered.
+/// Buffers for the answer to a field, and the gathered output.
 #[derive(Drop)]
 pub(crate) struct Work {
-    /// The text of a field, and then the bytes that are written for it.
+    /// The text of a field, and then the bytes to write for it.
     pub text: RecordBuffer,
-    /// Room for the rule.
+    /// Scratch bytes for the rule.
     pub scratch: RecordBuffer,
     /// The reply to a field.
     pub reply: Output,
-    /// What is still to be written.
+    /// Bytes that are not yet written.
     pub out: Output,
 }
 
-/// Has the text of a field answered.
+/// Answers the text of a field by the rule. Returns whether the field was refused.
 fn reply_to<A: FieldRule<L>, L: Ledger>(
     rule: &A,
     raw: &[u8],
@@ -79,7 +79,7 @@ fn reply_to<A: FieldRule<L>, L: Ledger>(
     }
 }
 
-/// Keeps what there is to report of a field that was just refused.
+/// Keeps a field that was just refused, for reports.
 fn watch_refusal(watch: &ColumnWatch, column: usize, raw: &[u8], work: &Work) {
     match plain_content(raw) {
         Some(text) => watch.refuse(column, text, work.reply.as_bytes()),
@@ -101,35 +101,35 @@ fn is_quoted(raw: &[u8]) -> bool
     !raw.is_empty() && raw[0] == b'"'
 }
 
-/// Whether the reply to a field is written in quotes because the field has them.
+/// Whether the reply to a field is written in quotes because the field has quotes.
 fn keeps_quotes(keeps: Keeping, raw: &[u8], is_refused: bool) -> bool
     ensures { (text : List ℕ) → result ≡ keeps_quotes keeps raw.now (record { text = text; fault = is_refused }) }
 {
     keeps.quotes && !is_refused && is_quoted(raw)
 }
 
-/// Where the bytes lie that are written for a field.
+/// Which bytes are written for a field.
 #[derive(Clone, Copy, Debug, PartialEq, Eq)]
 pub(crate) enum Shown {
-    /// They are the field's.
+    /// The field's own bytes.
     Raw,
-    /// They are the reply's.
+    /// The bytes of the reply.
     Reply,
-    /// They were written out.
+    /// The bytes in `Work::text`.
     Text,
 }
 
-/// What is written for a field, and whether it was refused.
+/// The bytes to write for a field, and whether it was refused.
 #[derive(Clone, Copy, Debug)]
 pub(crate) struct Answered {
-    /// Where the bytes lie.
+    /// Which bytes are written.
     pub shown: Shown,
-    /// Whether it was refused.
+    /// Whether the field was refused.
     pub is_refused: bool,
 }
 
 impl Answered {
-    /// The bytes that are written.
+    /// Returns the bytes to write.
     pub fn bytes<'b>(self, raw: &'b [u8], reply: &'b Output, text: &'b RecordBuffer) -> &'b [u8]
         ensures { result.now ≡ shown_bytes self.shown raw.now reply.now text.now }
     {
@@ -141,8 +141,8 @@ impl Answered {
     }
 }
 
-/// Where the bytes lie that are written for a field with this reply, by whether the field stays as it was, and whether
-/// quotes are kept. They are written out if they take quotes.
+/// Returns which bytes to write for a field with this reply, from whether the field stays as it was and whether its
+/// quotes are kept. A reply that takes quotes is first written to `text`.
 fn show(
     delimiter: u8,
     is_same: bool,
@@ -164,7 +164,7 @@ fn show(
     Shown::Reply
 }
 
-/// Has a field that is asked for answered.
+/// Answers a requested field.
 #[inline(always)]
 pub(crate) fn answer_asked<A: FieldRule<L>, L: Ledger>(
     task: &ColumnTask<'_, A>,

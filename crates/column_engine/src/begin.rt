@@ -15,13 +15,13 @@ pub(crate) const MARK: [u8; 3] = [0xef, 0xbb, 0xbf];
 pub enum Start {
     /// With a byte order mark.
     Marked,
-    /// With some of the bytes of one, or none, and then it ends.
+    /// With a proper prefix of one, maybe empty; then the text ends.
     Ended,
-    /// With some of the bytes of one, or none, and then another byte.
+    /// With a proper prefix of one, maybe empty; then another byte follows.
     Other,
 }
 
-/// Reads the next byte, where there is one.
+/// Reads the next byte, if any.
 pub(crate) fn read_byte<S: Source>(source: &mut S) -> Result<Option<u8>, Failed>
     ensures bytes { IfOk result (λ byte. Consumes (S.left source.old) (S.left source.new) (given byte)) }
     ensures end { IfOk result (λ byte. byte ≡ None → IsAtEnd (S.left source.new)) }
@@ -36,7 +36,7 @@ pub(crate) fn read_byte<S: Source>(source: &mut S) -> Result<Option<u8>, Failed>
     }
 }
 
-/// Reads the first bytes of a text, up to the first that differs from those of a byte order mark.
+/// Reads the first bytes of a text, through the first byte that differs from a byte order mark.
 pub(crate) fn read_start<S: Source>(source: &mut S, start: &mut Output) -> Result<Start, Failed>
     requires { start.old ≡ [] }
     ensures taken { Consumes (S.left source.old) (S.left source.new) start.new }

@@ -6,37 +6,37 @@ ghost use Rattle.column_engine.specs.Gathered.{only};
 
 use text_buffer::TextBuffer;
 
-/// How many bytes the name of a new column has at most.
+/// The longest name of a new column, in bytes.
 pub const MAX_NAME: usize = 1024;
 
-/// Some columns that are side by side, by their places, from 0.
+/// Adjacent columns, by their indices from 0.
 #[derive(Clone, Copy, Debug, Drop, PartialEq, Eq)]
 pub struct Range {
-    /// The first of them.
+    /// The first column.
     pub from: usize,
-    /// The last of them, or the greatest number for all columns that a record has.
+    /// The last column, or the greatest number for all columns to the end of a record.
     pub to: usize,
 }
 
-/// What a word asks for.
+/// The columns that an operand requests.
 #[derive(Drop)]
 pub enum Column {
-    /// The columns at these places.
+    /// The columns in this range.
     At(Range),
-    /// Under a header the first column with this name, and else the ones that the name is read as.
+    /// The first column with this name under a header; without one, the columns that the name is read as.
     Named(String, Option<Range>),
 }
 
 /// Where the answers to fields go.
 #[derive(Drop)]
 pub enum Destination {
-    /// To the place of the fields.
+    /// Into the fields themselves.
     InPlace,
-    /// Into a new column with this name, after the last: the answers to the first column that is asked for.
+    /// Into a new last column with this name: the answers for the first requested column.
     NewColumn(TextBuffer<MAX_NAME>),
 }
 
-/// What of a field that is answered is kept.
+/// What is kept of a field that is answered.
 #[derive(Clone, Copy, Debug, Drop, PartialEq, Eq)]
 pub struct Keeping {
     /// Whether a field stays as it was if it is refused.
@@ -45,14 +45,14 @@ pub struct Keeping {
     pub quotes: bool,
 }
 
-/// Whether a range has a column.
+/// Whether a range contains a column.
 fn is_within(column: usize, range: Range) -> bool
     ensures { result ≡ is_within column range }
 {
     range.from <= column && column <= range.to
 }
 
-/// Whether a column is asked for.
+/// Whether a column is requested.
 pub(crate) fn is_asked(asked: &[Range], column: usize) -> bool
     ensures { result ≡ is_asked asked.now column }
 {
@@ -64,7 +64,7 @@ pub(crate) fn is_asked(asked: &[Range], column: usize) -> bool
     false
 }
 
-/// How many fields a record must have for a range.
+/// Returns how many fields a record must have for a range.
 fn needed_for(range: Range) -> usize
     ensures { result ≡ needed_for range }
 {
@@ -75,14 +75,14 @@ fn needed_for(range: Range) -> usize
     }
 }
 
-/// The greater of two numbers.
+/// Returns the greater of two numbers.
 fn greater(a: usize, b: usize) -> usize
     ensures { result ≡ max a b }
 {
     if a < b { b } else { a }
 }
 
-/// How many fields a record must have.
+/// Returns how many fields a record must have.
 pub(crate) fn needed(asked: &[Range]) -> usize
     ensures { result ≡ needed asked.now }
 {
@@ -93,7 +93,7 @@ pub(crate) fn needed(asked: &[Range]) -> usize
     most
 }
 
-/// The first column that is asked for.
+/// Returns the first requested column.
 pub(crate) fn first_asked(asked: &[Range]) -> usize
     ensures { result ≡ first_asked asked.now }
 {
@@ -103,7 +103,7 @@ pub(crate) fn first_asked(asked: &[Range]) -> usize
     }
 }
 
-/// The column that is asked for, where it is known that there is no other.
+/// Returns the requested column if just one column is requested.
 pub(crate) fn only_asked(asked: &[Range]) -> Option<usize>
     ensures one { IfSome result (λ column. asked.now ≡ only column) }
     ensures most { IfSome result (λ column. column < 2 ^ 64 - 1) }

@@ -1,4 +1,4 @@
-//! What is kept between two chunks of a text, and how its records are answered.
+//! Cuts the chunks of a text into records and answers them. A record may span chunks.
 
 ghost use Rattle.std.specs.Prelude.{◌≡◌, ◌≤◌, ◌<◌, ◌+◌, ◌++◌, [], List, ℕ, IfErr, OnOk, OnErr, length};
 ghost use Rattle.column_engine.specs.Feeding.{FailsFeed, FeedsRows, IsStanding};
@@ -15,18 +15,18 @@ use fixed_steps::Steps;
 use line_engine::Sink;
 use std::sync::ledger::Ledger;
 
-/// What is kept between two chunks of a text.
+/// The state between two chunks of a text.
 #[derive(Drop)]
 pub(crate) struct Cutter<'a> {
     /// How far the text was answered.
     pub progress: Progress<'a>,
-    /// The bytes of the record at hand that earlier chunks had.
+    /// The bytes of the current record from earlier chunks.
     pub kept: RecordBuffer,
-    /// The place after them.
+    /// The lexer state after them.
     pub place: Place,
 }
 
-/// Answers the record at hand, which ends with this part and this byte. A plain part has no newline.
+/// Answers the current record, which ends with `part` and the byte `end`. A plain part has no newline.
 fn end_row<A: FieldRule<L>, K: Sink, L: Ledger>(
     task: &ColumnTask<'_, A>,
     cutter: &mut Cutter<'_>,
@@ -74,7 +74,7 @@ fn end_row<A: FieldRule<L>, K: Sink, L: Ledger>(
     Ok(())
 }
 
-/// Answers the records that end in a chunk, and keeps what follows the last of them.
+/// Answers the records that end in a chunk, and keeps the bytes after the last of them.
 pub(crate) fn feed<A: FieldRule<L>, K: Sink, L: Ledger>(
     task: &ColumnTask<'_, A>,
     cutter: &mut Cutter<'_>,

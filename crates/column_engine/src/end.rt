@@ -5,7 +5,7 @@ ghost use Rattle.column_engine.specs.End.{end_status};
 
 use line_engine::Status;
 
-/// Why no further record of a text was answered.
+/// Why the run over the records of a text stopped.
 #[derive(Clone, Copy, Debug, PartialEq, Eq)]
 pub enum Stop {
     /// Every record was answered.
@@ -20,27 +20,27 @@ pub enum Stop {
     TooLong,
     /// The text ends inside quotes, in the next record.
     Unclosed,
-    /// The next record has no such column, but only so many.
+    /// The next record lacks a requested column: it has only this many.
     NoColumn(usize),
-    /// The header has no such column.
+    /// The header has no column with a requested name.
     NoName,
 }
 
 /// How the records of a text ended.
 #[derive(Clone, Copy, Debug, PartialEq, Eq)]
 pub struct ColumnEnd {
-    /// Why.
+    /// Why it stopped.
     pub stop: Stop,
-    /// How many records were answered, a header too.
+    /// How many records were answered, including a header.
     pub answered: u64,
     /// How many fields were refused.
     pub refused: u64,
-    /// The number of the first record whose field was refused, from 1; 0 where there is none.
+    /// The number of the first record with a refused field, from 1; 0 if none was refused.
     pub first: u64,
 }
 
 impl ColumnEnd {
-    /// The status that says so.
+    /// Returns the status for this end.
     pub fn status(&self) -> Status
         ensures { result ≡ end_status self.now.stop self.now.refused }
     {

@@ -1,4 +1,4 @@
-//! The text that the bytes of a field mean, and the bytes that mean a text.
+//! The text of a field, and a text written as a field.
 
 ghost use Rattle.std.specs.Prelude.{◌≡◌, ◌==◌, ◌<◌, ◌≤◌, ◌+◌, ◌*◌, ◌++◌, [], ◌∷◌, IfSome, if◌then◌else◌, length};
 ghost use Rattle.csv.specs.Writing.{default_writer, needs_byte, needs_quotes, quoted};
@@ -10,7 +10,7 @@ use crate::place::{Place, within_after};
 use crate::record_buffer::RecordBuffer;
 use memchr::memchr;
 
-/// Whether a byte of a field is a quote around its text, or the first of two that mean one.
+/// Whether a byte of a field is an opening or closing quote, or the first of a doubled quote.
 pub(crate) fn is_dropped(place: Place, byte: u8) -> bool
     ensures { result ≡ is_dropped place byte }
 {
@@ -20,7 +20,7 @@ pub(crate) fn is_dropped(place: Place, byte: u8) -> bool
     }
 }
 
-/// The text of a field, where it lies in the field's bytes.
+/// Returns the text of a field if it is a slice of the field's bytes.
 pub(crate) fn plain_content(raw: &[u8]) -> Option<&[u8]>
     ensures { IfSome result (λ text. text.now ≡ content Place.Start raw.now) }
 {
@@ -37,7 +37,7 @@ pub(crate) fn plain_content(raw: &[u8]) -> Option<&[u8]>
     }
 }
 
-/// Goes on with a byte of a field, where it is of its text.
+/// Appends a byte of a field if it belongs to the text.
 fn push_kept(place: Place, byte: u8, text: &mut RecordBuffer)
     requires { length text.old < longest_record }
     ensures text { text.new ≡ text.old ++ (if is_dropped place byte then [] else byte ∷ []) }
@@ -48,7 +48,7 @@ fn push_kept(place: Place, byte: u8, text: &mut RecordBuffer)
     }
 }
 
-/// Writes out the text of a field.
+/// Writes the text of a field.
 pub(crate) fn write_content(raw: &[u8], text: &mut RecordBuffer)
     requires { length raw.now ≤ longest_record }
     ensures { text.new ≡ content Place.Start raw.now }
@@ -61,14 +61,14 @@ pub(crate) fn write_content(raw: &[u8], text: &mut RecordBuffer)
     }
 }
 
-/// Whether a byte calls for quotes.
+/// Whether a byte needs quotes.
 fn is_special(delimiter: u8, byte: u8) -> bool
     ensures { result ≡ needs_byte (record default_writer { delimiter = delimiter }) byte }
 {
     byte == delimiter || byte == b'"' || byte == b'\r' || byte == b'\n'
 }
 
-/// Whether a byte of a text calls for quotes.
+/// Whether a text has a byte that needs quotes.
 fn has_special(delimiter: u8, text: &[u8]) -> bool
     ensures { result ≡ needs_quotes (record default_writer { delimiter = delimiter }) text.now }
 {
@@ -80,7 +80,7 @@ fn has_special(delimiter: u8, text: &[u8]) -> bool
     false
 }
 
-/// Whether a text is a field only in quotes.
+/// Whether a text must be quoted as a field.
 pub(crate) fn calls_for_quotes(delimiter: u8, text: &[u8]) -> bool
     ensures { result ≡ calls_for_quotes delimiter text.now }
 {
@@ -90,7 +90,7 @@ pub(crate) fn calls_for_quotes(delimiter: u8, text: &[u8]) -> bool
     has_special(delimiter, text)
 }
 
-/// Goes on with a byte between quotes.
+/// Appends a byte between quotes.
 fn push_escaped(byte: u8, shown: &mut RecordBuffer)
     requires { length shown.old + 2 ≤ longest_record }
     ensures text { shown.new ≡ shown.old ++ (if byte == 34 then 34 ∷ byte ∷ [] else byte ∷ []) }
@@ -102,7 +102,7 @@ fn push_escaped(byte: u8, shown: &mut RecordBuffer)
     shown.push(byte);
 }
 
-/// Goes on with a text in quotes, each quote in it twice.
+/// Appends a text in quotes, with each quote in it doubled.
 fn push_quoted(delimiter: u8, text: &[u8], shown: &mut RecordBuffer)
     requires { length shown.old + 2 * length text.now + 2 ≤ longest_record }
     ensures { shown.new ≡ shown.old ++ quoted (record default_writer { delimiter = delimiter }) text.now }
@@ -114,7 +114,7 @@ fn push_quoted(delimiter: u8, text: &[u8], shown: &mut RecordBuffer)
     shown.push(b'"');
 }
 
-/// Writes out a text as a field in quotes.
+/// Writes a text as a field in quotes.
 pub(crate) fn write_in_quotes(delimiter: u8, text: &[u8], shown: &mut RecordBuffer)
     requires { 2 * length text.now + 2 ≤ longest_record }
     ensures { shown.new ≡ in_quotes delimiter text.now }
@@ -123,7 +123,7 @@ pub(crate) fn write_in_quotes(delimiter: u8, text: &[u8], shown: &mut RecordBuff
     push_quoted(delimiter, text, shown);
 }
 
-/// Writes out a text as a field.
+/// Writes a text as a field.
 pub(crate) fn write_as_field(delimiter: u8, text: &[u8], shown: &mut RecordBuffer)
     requires { 2 * length text.now + 2 ≤ longest_record }
     ensures { shown.new ≡ as_field delimiter text.now }

@@ -1,4 +1,4 @@
-//! The answers to the fields of a record, and what lies between them.
+//! The answers to the fields of a record, and the bytes between them.
 
 ghost use Rattle.std.specs.Prelude.{◌≡◌, ◌≤◌, ◌<◌, ◌-◌, ◌^◌, List, ℕ, Bool, false, if◌then◌else◌, IfOk, OnErr, drop};
 ghost use Rattle.std.specs.Prelude.{IfErr, length, take};
@@ -18,18 +18,18 @@ use fixed_steps::Steps;
 use line_engine::{Failed, Sink};
 use std::sync::ledger::Ledger;
 
-/// A field by its place in a record.
+/// A field by its position in a record.
 #[derive(Clone, Copy, Debug, Drop)]
 pub(crate) struct Field {
     /// Its column, from 0.
     pub column: usize,
-    /// Where its bytes begin.
+    /// The index of its first byte.
     pub start: usize,
-    /// The place after its last byte.
+    /// The index after its last byte.
     pub end: usize,
 }
 
-/// Gathers the answer to a field that is asked for, after the bytes before it. It says whether the field was refused.
+/// Gathers the bytes before a requested field and the answer to it. Returns whether the field was refused.
 #[inline(always)]
 fn gather_answer<A: FieldRule<L>, K: Sink, L: Ledger>(
     task: &ColumnTask<'_, A>,
@@ -56,8 +56,8 @@ fn gather_answer<A: FieldRule<L>, K: Sink, L: Ledger>(
     Ok(answered.is_refused)
 }
 
-/// Gathers the answer to a field with the bytes from a place on, or leaves both for later where the field isn't asked
-/// for. It says from where bytes are left, and how many fields were refused.
+/// Gathers the bytes since `from` and the answer to a field, or nothing if the field is not requested. Returns the
+/// index of the first byte not yet gathered, and how many fields were refused.
 fn pass_field<A: FieldRule<L>, K: Sink, L: Ledger>(
     task: &ColumnTask<'_, A>,
     asked: &[Range],
@@ -97,7 +97,7 @@ fn pass_field<A: FieldRule<L>, K: Sink, L: Ledger>(
     }
 }
 
-/// One where a field was refused.
+/// Returns 1 if a field was refused, else 0.
 pub(crate) fn as_count(is_refused: bool) -> u64
     ensures value { result ≡ (if is_refused then 1 else 0) }
     ensures most { result ≤ 1 }
@@ -105,7 +105,7 @@ pub(crate) fn as_count(is_refused: bool) -> u64
     if is_refused { 1 } else { 0 }
 }
 
-/// The columns up to one that a range goes on to, or up to a greater one.
+/// Returns the greater of `past` and the column after a range, or the greatest number for a range without end.
 fn past_range(past: usize, range: Range) -> usize
     ensures { (k : ℕ) → result ≤ k → k < 2 ^ 64 - 1 → (past ≤ k) × (range.to < k) }
 {
@@ -116,7 +116,7 @@ fn past_range(past: usize, range: Range) -> usize
     }
 }
 
-/// A column after all that are asked for, or the greatest number.
+/// Returns a column after every requested one, or the greatest number.
 fn past_asked(asked: &[Range]) -> usize
     ensures { (k : ℕ) → result ≤ k → k < 2 ^ 64 - 1 → is_asked asked.now k ≡ false }
 {
@@ -127,7 +127,7 @@ fn past_asked(asked: &[Range]) -> usize
     past
 }
 
-/// A field of a record by its column, or how many fields the record has where it has too few.
+/// Finds the field in a column. `Err(n)`: the record has only `n` fields.
 #[inline(always)]
 pub(crate) fn find_field(delimiter: u8, body: &[u8], column: usize) -> Result<Field, usize>
     requires { length body.now ≤ longest_record }
@@ -151,8 +151,7 @@ pub(crate) fn find_field(delimiter: u8, body: &[u8], column: usize) -> Result<Fi
     }
 }
 
-/// Gathers the answer to the one field of a record that is asked for, with the bytes around it, and says how many were
-/// refused.
+/// Gathers the answer to the only requested field, with the bytes around it. Returns how many fields were refused.
 #[inline(always)]
 pub(crate) fn answer_field<A: FieldRule<L>, K: Sink, L: Ledger>(
     task: &ColumnTask<'_, A>,
@@ -183,7 +182,7 @@ pub(crate) fn answer_field<A: FieldRule<L>, K: Sink, L: Ledger>(
     }
 }
 
-/// Gathers the answers to the fields of a record, and says how many were refused.
+/// Gathers the answers to the fields of a record. Returns how many were refused.
 pub(crate) fn answer_fields<A: FieldRule<L>, K: Sink, L: Ledger>(
     task: &ColumnTask<'_, A>,
     asked: &[Range],

@@ -1,4 +1,4 @@
-//! The gathering of an output before it is written.
+//! Gathers output before it is written.
 
 ghost use Rattle.std.specs.Prelude.{◌≡◌, ◌≤◌, List, ℕ, [], OnOk, OnErr, length};
 ghost use Rattle.std.specs.Io.KnownBytes.{Appends};
@@ -8,7 +8,7 @@ ghost use Rattle.line_engine.specs.Output.{AppendsPrefix};
 
 use line_engine::{Failed, OUTPUT_BUFFER, Output, Sink, write_whole};
 
-/// Writes what was gathered.
+/// Writes the gathered bytes.
 pub(crate) fn flush<K: Sink>(out: &mut Output, sink: &mut K) -> Result<(), Failed>
     ensures none { OnOk result (out.new ≡ []) }
     ensures ok { OnOk result (Appends (K.written sink.old) (K.written sink.new) out.old) }
@@ -20,8 +20,8 @@ pub(crate) fn flush<K: Sink>(out: &mut Output, sink: &mut K) -> Result<(), Faile
     Ok(())
 }
 
-/// Writes what was gathered, and gathers bytes, or writes them at once where they are many. Where a write failed, a
-/// prefix of all of it was written.
+/// Writes the gathered bytes, then gathers `bytes`, or writes them at once if they exceed the buffer. If a write fails,
+/// a prefix of all of it was written.
 #[inline(never)]
 fn put_behind<K: Sink>(bytes: &[u8], out: &mut Output, sink: &mut K) -> Result<(), Failed>
     ensures ok { OnOk result (Flushes out.old bytes.now out.new (K.written sink.old) (K.written sink.new)) }
@@ -37,8 +37,8 @@ fn put_behind<K: Sink>(bytes: &[u8], out: &mut Output, sink: &mut K) -> Result<(
     write_whole(sink, bytes)
 }
 
-/// Gathers bytes. Where there is no room for them, what was gathered is written first, and they are written at once
-/// where they are many. Where a write failed, a prefix of all of it was written.
+/// Gathers `bytes`. If they do not fit, writes the gathered bytes first, and `bytes` at once if they exceed the buffer.
+/// If a write fails, a prefix of all of it was written.
 #[inline(always)]
 pub(crate) fn put<K: Sink>(bytes: &[u8], out: &mut Output, sink: &mut K) -> Result<(), Failed>
     ensures ok { OnOk result (Flushes out.old bytes.now out.new (K.written sink.old) (K.written sink.new)) }
@@ -53,7 +53,7 @@ pub(crate) fn put<K: Sink>(bytes: &[u8], out: &mut Output, sink: &mut K) -> Resu
     put_behind(bytes, out, sink)
 }
 
-/// Gathers the byte that ends a record, where there is one.
+/// Gathers the byte that ends a record, if any.
 #[inline(always)]
 pub(crate) fn put_end<K: Sink>(end: &[u8], out: &mut Output, sink: &mut K) -> Result<(), Failed>
     ensures ok { OnOk result (Flushes out.old end.now out.new (K.written sink.old) (K.written sink.new)) }

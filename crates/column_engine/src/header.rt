@@ -1,7 +1,7 @@
-//! The columns that a header names.
+//! The requested columns under a header.
 //!
-//! A word is a name before it is a number, so a column named `2024` is found. Of two columns with one name it is the
-//! first.
+//! An operand is tried as a name before it is read as a number, so a column named `2024` is found. If two columns share
+//! a name, it means the first.
 
 ghost use Rattle.std.specs.Prelude.{◌≡◌, ◌≢◌, ◌≤◌, ◌<◌, ◌↔◌, IsTrue, MatchOption, length};
 ghost use Rattle.column_engine.specs.Answers.{HasNoNamed, IsFirstNamed, IsFound, IsMissing};
@@ -14,7 +14,7 @@ use crate::field::{plain_content, write_content};
 use crate::place::{Place, field_end};
 use crate::record_buffer::RecordBuffer;
 
-/// Whether the text of a field is this name.
+/// Whether the text of a field equals `name`.
 fn is_named(raw: &[u8], name: &[u8], text: &mut RecordBuffer) -> bool
     requires { length raw.now ≤ longest_record }
     ensures { IsTrue result ↔ (content Place.Start raw.now ≡ name.now) }
@@ -28,7 +28,7 @@ fn is_named(raw: &[u8], name: &[u8], text: &mut RecordBuffer) -> bool
     }
 }
 
-/// The place of the first field of a header that is this name.
+/// Returns the index of the first field of a header named `name`.
 fn place_of_name(
     delimiter: u8,
     header: &[u8],
@@ -54,7 +54,7 @@ fn place_of_name(
     }
 }
 
-/// The columns that a word means under a header.
+/// Returns the columns that an operand means under a header.
 pub(crate) fn found_column(
     delimiter: u8,
     header: &[u8],

@@ -1,14 +1,14 @@
-//! Columns of a CSV text answered by a rule; every other byte stays as it was.
+//! Answers columns of a CSV text by a rule; every other byte stays as it was.
 //!
-//! Records and fields are cut by their indices in the input, and not by the kit's reader and writer of CSV. These hand
-//! out texts and write them anew: quotes, ends of lines, blank lines and a byte order mark would be lost, a quote that
-//! is never closed would take the rest of the input, and a failed read would go unnoticed. They end where the kit's end
-//! (a law says so); a carriage return ends a record, and the line feed after it is an empty line. A reply is in quotes
-//! if `csv` would write them, and also if it is empty or begins with byte 239, so that it is never taken for an empty
+//! Records and fields are cut by their indices in the input, and not by the kit's reader and writer of CSV. These
+//! return texts and write them anew: quotes, line ends, blank lines and a byte order mark would be lost, an unclosed
+//! quote would take the rest of the input, and a failed read would go unnoticed. Records and fields end where the kit's
+//! end (a law says so); a carriage return ends a record, and the line feed after it is an empty line. A reply is quoted
+//! if `csv` would quote it, and also if it is empty or begins with byte 239, so that it is never taken for an empty
 //! line or a mark.
 //!
-//! A record without the column, a header without the name and a quote that is never closed are failed reads, since the
-//! input cannot be read as requested. The records before are answered and written.
+//! A record without the column, a header without the name and an unclosed quote are failed reads, since the input
+//! cannot be read as requested. The records before are answered and written.
 #![tactic(auto)]
 
 pub mod answer;

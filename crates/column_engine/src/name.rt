@@ -1,4 +1,4 @@
-//! The text of a field, as much of it as there is room for: of a name in a header.
+//! The text of a name in a header, cut to a buffer's room.
 
 ghost use Rattle.std.specs.Prelude.{◌≡◌, ◌+◌, ◌<◌, ◌≤◌, ◌++◌, [], ◌∷◌, if◌then◌else◌, length, take};
 ghost use Rattle.column_engine.specs.Rows.{content, is_dropped};
@@ -7,7 +7,7 @@ use crate::field::is_dropped;
 use crate::place::{Place, within_after};
 use text_buffer::TextBuffer;
 
-/// Goes on with a byte of a field, if it is of its text.
+/// Appends a byte of a field if it belongs to the text.
 fn push_kept<const N: usize>(place: Place, byte: u8, name: &mut TextBuffer<N>)
     requires { length name.old < N }
     ensures text { name.new ≡ name.old ++ (if is_dropped place byte then [] else byte ∷ []) }
@@ -18,8 +18,7 @@ fn push_kept<const N: usize>(place: Place, byte: u8, name: &mut TextBuffer<N>)
     }
 }
 
-/// Writes out the text of a field without the quotes around it, a quote within for each two, as much of it as there is
-/// room for.
+/// Writes the text of a field, without the quotes around it and with doubled quotes as one, cut to the buffer's room.
 pub fn write_name<const N: usize>(raw: &[u8], name: &mut TextBuffer<N>)
     ensures { name.new ≡ take N (content Place.Start raw.now) }
 {

@@ -1,4 +1,4 @@
-//! Where a record of CSV ends, and where a field of it ends.
+//! Finds the ends of CSV records and fields.
 
 ghost use Rattle.std.specs.Prelude.{◌≡◌, ◌≤◌, ◌<◌, ◌+◌, ◌++◌, [], ◌∷◌, ◌==◌, ℕ, true, false, drop, get_or, length};
 ghost use Rattle.std.specs.Prelude.{IfSome, IsTrue, take};
@@ -10,19 +10,19 @@ ghost use Rattle.column_engine.specs.declared.place.TheConstants.{NEAR};
 use memchr::{memchr, memchr3};
 use std::simd::prelude::*;
 
-/// How many bytes are looked at at once.
+/// How many bytes are compared at once.
 const NEAR: usize = 16;
 
-/// A place in a record.
+/// The state of the lexer in a record.
 #[derive(Clone, Copy, Debug, PartialEq, Eq)]
 pub enum Place {
     /// At the start of a field.
     Start,
-    /// In a field without quotes, or after them.
+    /// In an unquoted field, or after the quoted part of a field.
     Inside,
     /// Between the quotes of a field.
     Quoted,
-    /// After a quote that closes a field, or is the first of two.
+    /// After a quote that closes a field or is the first of a doubled quote.
     AfterQuote,
 }
 
@@ -46,7 +46,7 @@ fn ends_field(delimiter: u8, place: Place, byte: u8) -> bool
     }
 }
 
-/// The place after a byte of a field.
+/// Returns the state after a byte of a field.
 pub(crate) fn within_after(place: Place, byte: u8) -> Place
     ensures { result ≡ within_after place byte }
 {
@@ -58,7 +58,7 @@ pub(crate) fn within_after(place: Place, byte: u8) -> Place
     }
 }
 
-/// The place after a byte of a record.
+/// Returns the state after a byte of a record.
 fn place_after(delimiter: u8, place: Place, byte: u8) -> Place
     ensures { result ≡ place_after delimiter place byte }
 {
@@ -69,7 +69,7 @@ fn place_after(delimiter: u8, place: Place, byte: u8) -> Place
     }
 }
 
-/// The place of the lowest bit that is set, or how many bytes are looked at at once.
+/// Returns the index of the lowest set bit, or `NEAR` if none is set.
 #[inline(always)]
 fn first_set(marks: u64) -> usize
     ensures { result ≡ first_set marks }
@@ -81,7 +81,7 @@ fn first_set(marks: u64) -> usize
     }
 }
 
-/// How many of the next bytes come before the first one that is this one, or are looked at.
+/// Counts the bytes before the first `byte` in the next `NEAR`, all of them if it is not there.
 #[inline(always)]
 fn before_near(byte: u8, bytes: &[u8]) -> usize
     requires { NEAR ≤ length bytes.now }
@@ -95,7 +95,7 @@ fn before_near(byte: u8, bytes: &[u8]) -> usize
     first_set(marks)
 }
 
-/// How many bytes there are before the first one that is this one, or in all.
+/// Counts the bytes before the first `byte`, all of them if there is none.
 #[inline(always)]
 fn before_byte(byte: u8, bytes: &[u8]) -> usize
     ensures within { result ≤ length bytes.now }
@@ -114,7 +114,7 @@ fn before_byte(byte: u8, bytes: &[u8]) -> usize
     }
 }
 
-/// How many bytes there are before the first quote or end of a line, or in all.
+/// Counts the bytes before the first quote or line end, all of them if there is none.
 fn before_mark(bytes: &[u8]) -> usize
     ensures within { result ≤ length bytes.now }
     ensures plain { IsPlainBefore bytes.now result }
@@ -128,7 +128,7 @@ fn before_mark(bytes: &[u8]) -> usize
     }
 }
 
-/// The place after some bytes of a record that are no quotes and no ends of lines.
+/// Returns the state after bytes of a record without quotes and line ends.
 fn behind_plain(delimiter: u8, place: Place, bytes: &[u8]) -> Place
     ensures { result ≡ behind_plain delimiter place bytes.now }
 {
@@ -142,7 +142,7 @@ fn behind_plain(delimiter: u8, place: Place, bytes: &[u8]) -> Place
     }
 }
 
-/// Whether bytes from the start of a field on begin with a quote, where a quote ends no field.
+/// Whether bytes at the start of a field open with a quote that is not the delimiter.
 fn opens_quotes(delimiter: u8, bytes: &[u8]) -> bool
     ensures some { IsTrue result → 0 < length bytes.now }
     ensures quote { IsTrue result → get_or bytes.now 0 0 ≡ 34 }
@@ -151,7 +151,7 @@ fn opens_quotes(delimiter: u8, bytes: &[u8]) -> bool
     !bytes.is_empty() && bytes[0] == b'"' && delimiter != b'"'
 }
 
-/// Whether bytes from a place on begin with a quote that opens a field.
+/// Whether the next byte is a quote that opens a field.
 fn opens_field(delimiter: u8, place: Place, bytes: &[u8]) -> bool
     ensures start { IsTrue result → place ≡ Place.Start }
     ensures some { IsTrue result → 0 < length bytes.now }
@@ -164,7 +164,7 @@ fn opens_field(delimiter: u8, place: Place, bytes: &[u8]) -> bool
     }
 }
 
-/// Passes over bytes that neither end a record nor change what ends it. It says how many, and the place after them.
+/// Passes over bytes that neither end a record nor change what ends it. Returns their count and the state after them.
 #[inline(always)]
 fn pass_over(delimiter: u8, place: Place, bytes: &[u8]) -> (usize, Place)
     ensures within { result.0 ≤ length bytes.now }
@@ -184,8 +184,8 @@ fn pass_over(delimiter: u8, place: Place, bytes: &[u8]) -> (usize, Place)
     }
 }
 
-/// Where the record ends that goes on with these bytes from a place, where it ends in them; the place after those
-/// before; and whether these were passed over at once, and so have no newline.
+/// Finds the end of the current record in `bytes`. Returns its index, if any, the lexer state there, and whether the
+/// fast path was taken: then there is no newline before the index.
 #[inline(always)]
 pub(crate) fn record_end(delimiter: u8, from: Place, bytes: &[u8]) -> (Option<usize>, Place, bool)
     ensures some { IfSome result.0 (λ end. (end < length bytes.now) × IsUnended delimiter from (take end bytes.now)
@@ -212,7 +212,7 @@ pub(crate) fn record_end(delimiter: u8, from: Place, bytes: &[u8]) -> (Option<us
     }
 }
 
-/// How many bytes of a field keep its place, up to the next that may change it or end the field.
+/// Counts the bytes of a field that keep its state, up to the next that may change it or end the field.
 fn staying(delimiter: u8, place: Place, bytes: &[u8]) -> usize
     ensures within { result ≤ length bytes.now }
     ensures stays { StaysFor delimiter place bytes.now result }
@@ -224,7 +224,7 @@ fn staying(delimiter: u8, place: Place, bytes: &[u8]) -> usize
     }
 }
 
-/// A place at which the first field of a record can be taken to begin: inside of one where it has no quote first.
+/// Returns a state from which the first field of a record may be read: `Inside` unless it begins with a quote.
 fn first_place(body: &[u8]) -> Place
     ensures { (delimiter : ℕ) → raw_fields delimiter Place.Start body.now ≡ raw_fields delimiter result body.now }
 {
@@ -238,7 +238,7 @@ fn first_place(body: &[u8]) -> Place
     }
 }
 
-/// How many bytes the first field of a record has, by a walk over its bytes.
+/// Returns the length of the first field of a record in bytes, by a walk over its bytes.
 fn walked_end(delimiter: u8, body: &[u8]) -> usize
     ensures within { result ≤ length body.now }
     ensures last { result ≡ length body.now → raw_fields delimiter Place.Start body.now ≡ body.now ∷ [] }
@@ -262,7 +262,7 @@ fn walked_end(delimiter: u8, body: &[u8]) -> usize
     }
 }
 
-/// How many bytes the first field of a record has, where it is in quotes, has none within, and is not the last.
+/// Returns the length of the first field of a record if it is quoted, has no quote inside and is not the last.
 fn quoted_end(delimiter: u8, body: &[u8]) -> Option<usize>
     ensures within { IfSome result (λ end. end < length body.now) }
     ensures more { IfSome result (λ end. raw_fields delimiter Place.Start body.now ≡ take end body.now
@@ -283,7 +283,7 @@ fn quoted_end(delimiter: u8, body: &[u8]) -> Option<usize>
     }
 }
 
-/// How many bytes the first field of a record has.
+/// Returns the length of the first field of a record in bytes.
 #[inline(always)]
 pub fn field_end(delimiter: u8, body: &[u8]) -> usize
     ensures within { result ≤ length body.now }

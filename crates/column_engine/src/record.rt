@@ -1,4 +1,4 @@
-//! The answer to a record that is no header.
+//! The answer to a record other than a header.
 
 ghost use Rattle.std.specs.Prelude.{◌≡◌, ◌≢◌, ◌≤◌, ◌<◌, ◌+◌, ◌++◌, [], ◌∷◌, false, List, ℕ, Bool, IfErr, IfOk};
 ghost use Rattle.std.specs.Prelude.{IfSome, OnOk, OnErr, get_or, if◌then◌else◌, length};
@@ -40,7 +40,7 @@ pub(crate) fn put_row<K: Sink>(
     }
 }
 
-/// Gathers the bytes of a record, one field more, and the byte that ends the record.
+/// Gathers the bytes of a record, one more field, and the byte that ends the record.
 pub(crate) fn put_longer<K: Sink>(
     delimiter: u8,
     body: &[u8],
@@ -61,7 +61,7 @@ pub(crate) fn put_longer<K: Sink>(
     }
 }
 
-/// The field of a record in a column, without a byte where there is none.
+/// Returns the field in a column, empty if the record lacks it.
 fn field_in(delimiter: u8, body: &[u8], column: usize) -> &[u8]
     requires { length body.now ≤ longest_record }
     ensures value { result.now ≡ get_or (raw_fields delimiter Place.Start body.now) column [] }
@@ -73,8 +73,8 @@ fn field_in(delimiter: u8, body: &[u8], column: usize) -> &[u8]
     }
 }
 
-/// Gathers a record with the answer to the first column that is asked for as one field more. It says how many fields
-/// were refused.
+/// Writes the record with one more field: the answer for the first requested column. Returns how many fields were
+/// refused.
 fn lengthen_record<A: FieldRule<L>, K: Sink, L: Ledger>(
     task: &ColumnTask<'_, A>,
     asked: &[Range],
@@ -105,8 +105,8 @@ fn lengthen_record<A: FieldRule<L>, K: Sink, L: Ledger>(
     }
 }
 
-/// The one field of a record that is asked for, where it is known that there is no other, or how many fields the record
-/// has where it has too few.
+/// Returns the requested field if just one column was requested. `Err(n)`: the record lacks a requested column and has
+/// only `n` fields.
 fn only_field(delimiter: u8, asked: &[Range], body: &[u8]) -> Result<Option<Field>, usize>
     requires { length body.now ≤ longest_record }
     ensures enough { OnOk result (needed asked.now ≤ length (raw_fields delimiter Place.Start body.now)) }
@@ -127,7 +127,7 @@ fn only_field(delimiter: u8, asked: &[Range], body: &[u8]) -> Result<Option<Fiel
     }
 }
 
-/// Gathers the answers to the fields of a record, and says how many were refused.
+/// Gathers the answers to the fields of a record. Returns how many were refused.
 fn fill_record<A: FieldRule<L>, K: Sink, L: Ledger>(
     task: &ColumnTask<'_, A>,
     asked: &[Range],
@@ -154,7 +154,7 @@ fn fill_record<A: FieldRule<L>, K: Sink, L: Ledger>(
     }
 }
 
-/// Gathers the answer to a record that has the columns that are asked for, and says how many fields were refused.
+/// Gathers the answer to a record that has the requested columns. Returns how many fields were refused.
 fn gather_record<A: FieldRule<L>, K: Sink, L: Ledger>(
     task: &ColumnTask<'_, A>,
     progress: &Progress<'_>,
@@ -202,7 +202,7 @@ fn gather_record<A: FieldRule<L>, K: Sink, L: Ledger>(
     }
 }
 
-/// Answers a record that is no header.
+/// Answers a record other than a header.
 pub(crate) fn answer_record<A: FieldRule<L>, K: Sink, L: Ledger>(
     task: &ColumnTask<'_, A>,
     progress: &mut Progress<'_>,

@@ -1,4 +1,4 @@
-//! Bytes of a record that are kept.
+//! The bytes of a record.
 
 ghost use Rattle.std.specs.Prelude.{◌≡◌, ◌≤◌, ◌<◌, ◌+◌, ◌↔◌, IsTrue, ◌++◌, [], ◌∷◌, List, ℕ, length, IfOk};
 ghost use Rattle.std.specs.Prelude.{vec_capacity};
@@ -7,10 +7,10 @@ ghost use Rattle.column_engine.specs.Limits.{longest_record};
 use std::alloc::{AllocError, Global};
 use std::marker::Model;
 
-/// How many bytes a record has at most, with its quotes and without the byte that ends it.
+/// The longest record in bytes, with its quotes and without the byte that ends it.
 pub const MAX_RECORD: usize = 1_048_576;
 
-/// At most as many bytes as a record has.
+/// A buffer for at most `MAX_RECORD` bytes.
 #[derive(Drop)]
 pub struct RecordBuffer {
     bytes: Vec<u8>,
@@ -25,7 +25,7 @@ impl Model for RecordBuffer {
 }
 
 impl RecordBuffer {
-    /// No bytes. It takes all the memory that a record will need.
+    /// An empty buffer. It allocates all the memory that a record will need.
     pub fn new(alloc: Global) -> Result<RecordBuffer, AllocError>
         ensures { IfOk result (λ kept. kept ≡ []) }
     {
@@ -33,7 +33,7 @@ impl RecordBuffer {
         Ok(RecordBuffer { bytes })
     }
 
-    /// Goes on with bytes, which must fit.
+    /// Appends bytes, which must fit.
     pub fn append(&mut self, part: &[u8])
         requires { length self.old + length part.now ≤ longest_record }
         ensures { self.new ≡ self.old ++ part.now }
@@ -41,7 +41,7 @@ impl RecordBuffer {
         self.bytes.extend_from_slice(part).unwrap();
     }
 
-    /// Goes on with a byte, which must fit.
+    /// Appends a byte, which must fit.
     pub fn push(&mut self, byte: u8)
         requires { length self.old < longest_record }
         ensures { self.new ≡ self.old ++ byte ∷ [] }
@@ -49,7 +49,7 @@ impl RecordBuffer {
         self.bytes.push(byte).unwrap();
     }
 
-    /// How many bytes there are.
+    /// Returns the number of bytes.
     pub fn len(&self) -> usize
         ensures count { result ≡ length self.now }
         ensures most { result ≤ longest_record }
@@ -57,7 +57,7 @@ impl RecordBuffer {
         self.bytes.len()
     }
 
-    /// Whether there is no byte.
+    /// Whether the buffer is empty.
     pub fn is_empty(&self) -> bool
         ensures none { IsTrue result ↔ (self.now ≡ []) }
         ensures most { length self.now ≤ longest_record }
@@ -65,7 +65,7 @@ impl RecordBuffer {
         self.bytes.is_empty()
     }
 
-    /// Forgets all bytes.
+    /// Removes all bytes.
     pub fn clear(&mut self)
         ensures { self.new ≡ [] }
     {

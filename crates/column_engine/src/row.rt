@@ -1,4 +1,4 @@
-//! The answer to a record.
+//! The answer to a record, an empty line or a header.
 
 ghost use Rattle.std.specs.Prelude.{◌≡◌, ◌≢◌, ◌≤◌, ◌<◌, ◌+◌, ◌++◌, [], true, false, List, ℕ, MatchOption, IfErr};
 ghost use Rattle.std.specs.Prelude.{OnOk, OnErr, length};
@@ -32,17 +32,17 @@ pub struct Progress<'a> {
     pub destination: &'a Destination,
     /// Whether the next record is the header.
     pub is_headed: bool,
-    /// The columns that are asked for, where they are known.
+    /// The requested columns, once they are known.
     pub asked: Vec<Range>,
-    /// How many records were answered, a header too; it stays at the last value of u64.
+    /// How many records were answered, including a header; it stays at `u64::MAX`.
     pub answered: u64,
-    /// How many fields were refused; it stays at the last value of u64.
+    /// How many fields were refused; it stays at `u64::MAX`.
     pub refused: u64,
-    /// The number of the first record one of whose fields was refused, from 1; 0 where there is none.
+    /// The number of the first record with a refused field, from 1; 0 if none was refused.
     pub first: u64,
 }
 
-/// Counts a record, this many of whose fields were refused.
+/// Counts a record with `refused` refused fields.
 pub(crate) fn count_record(progress: &mut Progress<'_>, refused: u64)
     ensures { state_of progress.new ≡ one_more (state_of progress.old) refused }
 {
@@ -53,7 +53,7 @@ pub(crate) fn count_record(progress: &mut Progress<'_>, refused: u64)
     }
 }
 
-/// How many fields a record has, where it has too few.
+/// Returns how many fields a record has if it has fewer than `needed`.
 pub(crate) fn lacking(delimiter: u8, body: &[u8], needed: usize) -> Option<usize>
     requires { length body.now ≤ longest_record }
     ensures { MatchOption result (needed ≤ length (raw_fields delimiter Place.Start body.now))
@@ -74,7 +74,7 @@ pub(crate) fn lacking(delimiter: u8, body: &[u8], needed: usize) -> Option<usize
     }
 }
 
-/// Finds the columns that are asked for under a header, or says that a name is missing.
+/// Finds the requested columns under a header. Returns false if a name is missing.
 fn find_columns(
     delimiter: u8,
     header: &[u8],
@@ -98,7 +98,7 @@ fn find_columns(
     true
 }
 
-/// Finds in a header the columns that are asked for.
+/// Finds the requested columns in a header.
 fn read_header<A>(
     task: &ColumnTask<'_, A>,
     progress: &mut Progress<'_>,
@@ -128,7 +128,7 @@ fn read_header<A>(
     }
 }
 
-/// Gathers the bytes of a header, the name of a new column where there is one, and the byte that ends it.
+/// Gathers the bytes of a header, the name of the new column, if any, and the byte that ends the header.
 fn put_header<K: Sink>(
     delimiter: u8,
     destination: &Destination,
@@ -160,7 +160,7 @@ fn put_header<K: Sink>(
     }
 }
 
-/// Answers a record, or passes over an empty line or the header.
+/// Answers a record, or passes an empty line or the header through.
 pub(crate) fn answer_row<A: FieldRule<L>, K: Sink, L: Ledger>(
     task: &ColumnTask<'_, A>,
     progress: &mut Progress<'_>,

@@ -1,4 +1,4 @@
-//! What answers a field.
+//! Rules that answer fields.
 
 ghost use Rattle.std.specs.Prelude.{◌≡◌, ◌≤◌, [], List, ℕ, length};
 ghost use Rattle.column_engine.specs.Limits.{longest_record};
@@ -9,13 +9,13 @@ use fixed_steps::Steps;
 use line_engine::Output;
 use std::sync::ledger::Ledger;
 
-/// A rule that answers fields. Its meaning is a relation of the text of a field and its one reply.
+/// A rule that answers fields. Its meaning is a relation between the text of a field and its one reply.
 pub trait FieldRule<L: Ledger> {
-    /// Whether a text with its flag is the reply to a field: the rule's meaning. A reply without a byte leaves the
-    /// field as it was.
+    /// The rule's meaning: whether a text with its flag is the reply to a field. An empty reply leaves the field as it
+    /// was.
     ghost Answers: { Self → List ℕ → AnswerText → Type 0 };
 
-    /// Writes out the reply to a field, and answers whether it refuses the field. The scratch is room for bytes.
+    /// Writes the reply to a field, and returns whether it refuses the field. `scratch` is working space.
     fn answer(
         &self,
         field: &[u8],

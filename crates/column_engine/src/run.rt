@@ -1,4 +1,4 @@
-//! Columns of a text answered, from a source to a sink.
+//! Answers columns of a text from a source to a sink.
 
 ghost use Rattle.std.specs.Prelude.{◌≡◌, ◌≢◌, ◌⊎◌, ◌≤◌, ◌<◌, ◌+◌, ◌++◌, [], List, ℕ, Option, IfOk, IfErr, OnOk};
 ghost use Rattle.std.specs.Prelude.{length, map};
@@ -28,13 +28,13 @@ use line_engine::{Output, Sink, Source, write_whole};
 use std::alloc::{AllocError, Global};
 use std::sync::ledger::Ledger;
 
-/// How many bytes are read at a time at most.
+/// The most bytes that one read requests.
 const CHUNK: usize = 16_384;
 
-/// How many bytes a text has at most.
+/// The longest text, in bytes.
 const MAX_TEXT: u64 = 9_223_372_036_854_775_808;
 
-/// Writes what was gathered before the records of a text ended so, and says how they ended: a write may fail here too.
+/// Writes the gathered bytes of a run that stops. Returns how the run ended, since this write may fail too.
 fn stop_after<K: Sink>(stop: Stop, out: &mut Output, sink: &mut K) -> Stop
     ensures which { (result ≡ stop) ⊎ (result ≡ Stop.WriteFault) }
     ensures wrote { (start : Option (List ℕ)) (text left : List ℕ) → IsLeft stop left out.old
@@ -52,7 +52,7 @@ fn stop_after<K: Sink>(stop: Stop, out: &mut Output, sink: &mut K) -> Stop
     }
 }
 
-/// Answers the records that end in a chunk, keeps what follows the last of them, and writes the answers.
+/// Answers the records that end in a chunk, keeps the bytes after the last of them, and writes the answers.
 fn take_chunk<A: FieldRule<L>, K: Sink, L: Ledger>(
     task: &ColumnTask<'_, A>,
     cutter: &mut Cutter<'_>,
@@ -87,7 +87,7 @@ fn take_chunk<A: FieldRule<L>, K: Sink, L: Ledger>(
     }
 }
 
-/// Answers the last record of a text, which has no end, where it is not empty, and says how the text ended.
+/// Answers the last record of a text, which has no line end, if it is not empty. Returns how the text ended.
 fn end_text<A: FieldRule<L>, K: Sink, L: Ledger>(
     task: &ColumnTask<'_, A>,
     cutter: &mut Cutter<'_>,
@@ -129,9 +129,8 @@ fn end_text<A: FieldRule<L>, K: Sink, L: Ledger>(
     }
 }
 
-/// Reads the first bytes of a text, and writes a byte order mark that it begins with. Where the text ends with them,
-/// or a read or a
-/// write fails, it says how the text ended.
+/// Reads the first bytes of a text, and writes its byte order mark, if any. `Err`: the run ended here, since the text
+/// ended, a record could not be answered, or a read or write failed.
 fn begin_text<A: FieldRule<L>, S: Source, K: Sink, L: Ledger>(
     task: &ColumnTask<'_, A>,
     cutter: &mut Cutter<'_>,
@@ -178,7 +177,7 @@ fn begin_text<A: FieldRule<L>, S: Source, K: Sink, L: Ledger>(
     }
 }
 
-/// Reads a text to its end, and has its records answered.
+/// Reads a text to its end and answers its records.
 fn answer_text<A: FieldRule<L>, S: Source, K: Sink, L: Ledger>(
     task: &ColumnTask<'_, A>,
     cutter: &mut Cutter<'_>,
@@ -215,7 +214,7 @@ fn answer_text<A: FieldRule<L>, S: Source, K: Sink, L: Ledger>(
     Stop::TooLong
 }
 
-/// Passes the lines before the records through, and then reads the text to its end and has its records answered.
+/// Passes the lines before the records through, reads the text to its end and answers its records.
 fn answer_after_lines<A: FieldRule<L>, S: Source, K: Sink, L: Ledger>(
     task: &ColumnTask<'_, A>,
     cutter: &mut Cutter<'_>,
@@ -240,8 +239,8 @@ fn answer_after_lines<A: FieldRule<L>, S: Source, K: Sink, L: Ledger>(
     answer_text(task, cutter, work, source, sink, steps)
 }
 
-/// The columns that a word means without a header; a name that is no number means the first one, until a header is
-/// read.
+/// Returns the columns that an operand means without a header. A name that is not a number means the first column until
+/// a header is read.
 fn first_range(column: &Column) -> Range
     ensures { result ≡ first_range column.now }
 {
@@ -252,7 +251,7 @@ fn first_range(column: &Column) -> Range
     }
 }
 
-/// The columns that each word means without a header.
+/// Returns the columns that each operand means without a header.
 fn first_ranges(alloc: Global, columns: &[Column]) -> Result<Vec<Range>, AllocError>
     ensures { IfOk result (λ asked. asked.items ≡ map first_range columns.now) }
 {
@@ -263,7 +262,7 @@ fn first_ranges(alloc: Global, columns: &[Column]) -> Result<Vec<Range>, AllocEr
     Ok(asked)
 }
 
-/// Before the first record.
+/// Returns the progress before the first record.
 fn first_progress<'a, A>(
     alloc: Global,
     task: &ColumnTask<'a, A>,
@@ -282,7 +281,7 @@ fn first_progress<'a, A>(
     })
 }
 
-/// Room for the run.
+/// Allocates the state between chunks.
 fn begin_cutter<'a, A>(alloc: Global, task: &ColumnTask<'a, A>) -> Result<Cutter<'a>, AllocError>
     ensures progress { IfOk result (λ cutter. state_of cutter.progress ≡ first_state task.now.has_header
         task.now.destination.now task.now.columns.now) }
@@ -298,7 +297,7 @@ fn begin_cutter<'a, A>(alloc: Global, task: &ColumnTask<'a, A>) -> Result<Cutter
     })
 }
 
-/// Room for the answers.
+/// Allocates the buffers for the answers.
 fn begin_work(alloc: Global) -> Result<Work, AllocError>
     ensures { IfOk result (λ work. work.out ≡ []) }
 {
@@ -312,7 +311,7 @@ fn begin_work(alloc: Global) -> Result<Work, AllocError>
     })
 }
 
-/// How the records of a text ended.
+/// Returns how the records of a text ended.
 fn end_of(stop: Stop, progress: &Progress<'_>) -> ColumnEnd
     ensures stop { result.stop ≡ stop }
     ensures counts { SameCounts (state_of progress.now) (counts_of result) }
@@ -325,17 +324,14 @@ fn end_of(stop: Stop, progress: &Progress<'_>) -> ColumnEnd
     }
 }
 
-/// Has columns of a text answered by a rule, and writes the text with these fields replaced to a sink. Lines before its
-/// records are passed through. Every other byte stays as it was:
-/// a byte order mark, quotes, blank lines, the ends of lines.
+/// Answers columns of a text by a rule, and writes the text with these fields replaced to a sink. Lines before its
+/// records are passed through. Every other byte stays as it was: a byte order mark, quotes, blank lines, line ends.
 ///
-/// It takes memory for three records of 1,048,576 bytes and for a range of columns for each word, and ends with
-/// `NoMemory` where that
-/// fails; afterwards it takes none. Each read asks for at most 16,384 bytes, and the answers to the records that
-/// ended in them are
-/// written before the next read.
+/// It allocates three records of 1,048,576 bytes and a range of columns for each operand, and ends with `NoMemory` if
+/// that fails; afterwards it allocates nothing. Each read requests at most 16,384 bytes, and the answers to the records
+/// that ended in them are written before the next read.
 ///
-/// The delimiter is an ASCII character that is no quote and no end of a line.
+/// The delimiter is an ASCII character other than a quote, a line feed or a carriage return.
 pub fn run_column<A: FieldRule<L>, S: Source, K: Sink, L: Ledger>(
     alloc: Global,
     task: &ColumnTask<'_, A>,
@@ -343,7 +339,7 @@ pub fn run_column<A: FieldRule<L>, S: Source, K: Sink, L: Ledger>(
     sink: &mut K,
     steps: &mut Steps<L>,
 ) -> ColumnEnd
-    // What was taken and what was written, by how the run ended.
+    // The bytes read and written, by how the run ended.
     ensures run { (result.stop ≡ Stop.NoMemory) ⊎ HasRunAfter task.now.skipped result.stop (A.Answers task.now.rule.now)
         task.now.keeps task.now.delimiter task.now.columns.now
         (first_state task.now.has_header task.now.destination.now task.now.columns.now) (counts_of result)
@@ -353,7 +349,7 @@ pub fn run_column<A: FieldRule<L>, S: Source, K: Sink, L: Ledger>(
     ensures failures { HasFailures (S.failures source.old) (S.failures source.new) (K.failures sink.old) (K.failures
         sink.new) result.stop }
 
-    // Where there was no memory, nothing was read or written.
+    // Without memory, nothing was read or written.
     ensures memory { result.stop ≡ Stop.NoMemory → (source.new ≡ source.old) × (sink.new ≡ sink.old) }
 {
     match (begin_cutter(alloc, task), begin_work(alloc)) {

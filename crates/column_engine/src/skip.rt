@@ -1,4 +1,4 @@
-//! Lines at the beginning of a text, before its records, which are passed through.
+//! Passes the lines before the records of a text through.
 //!
 //! They are read byte by byte, since the bytes after them belong to the records.
 
@@ -14,10 +14,10 @@ use crate::end::Stop;
 use crate::gather::{flush, put};
 use line_engine::{Failed, Output, Sink, Source};
 
-/// How many bytes are passed over at most.
+/// The most bytes that are passed through.
 pub const MAX_SKIPPED: u64 = 9_223_372_036_854_775_808;
 
-/// Passes a byte through, and says how many lines are left after it. A line that it ends is written.
+/// Passes a byte through, and writes the line if the byte ends it. Returns how many lines are left.
 fn pass_byte<K: Sink>(byte: u8, left: u64, out: &mut Output, sink: &mut K) -> Result<u64, Failed>
     requires { 0 < left }
     ensures ok { IfOk result (λ now. now ≡ (if byte == 10 then left - 1 else left)) }
@@ -35,7 +35,7 @@ fn pass_byte<K: Sink>(byte: u8, left: u64, out: &mut Output, sink: &mut K) -> Re
     Ok(left - 1)
 }
 
-/// Passes the first lines of a text through, or all of a text that has fewer. A line ends with a newline.
+/// Passes the first `count` lines of a text through, or the whole text if it has fewer. A line ends with a newline.
 pub(crate) fn pass_lines<S: Source, K: Sink>(
     count: u64,
     out: &mut Output,

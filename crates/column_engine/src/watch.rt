@@ -1,12 +1,12 @@
-//! What there is to report of a run over columns: the header, and the first field that was refused. What a cell keeps
-//! no contract says: it is tested.
+//! What is kept for reports of a run over columns: the header and the first refused field. Contracts cannot describe
+//! the contents of a `Cell`; tests do.
 
 use crate::record_buffer::RecordBuffer;
 use memchr::memchr;
 use std::cell::Cell;
 use text_buffer::TextBuffer;
 
-/// How many bytes of a field, and of the reply that refuses it, are kept.
+/// How many bytes are kept of a field and of the reply that refuses it.
 const KEPT: usize = 160;
 
 /// How many bytes of a header are kept.
@@ -15,9 +15,9 @@ const KEPT_HEADER: usize = 4096;
 /// A field that was refused.
 #[derive(Drop)]
 pub struct RefusedField {
-    /// The number of the line that its record begins in, from 1.
+    /// The number of the line where its record begins, from 1.
     pub line: u64,
-    /// Its place in the record, from 0.
+    /// Its index in the record, from 0.
     pub column: usize,
     /// The first bytes of its text.
     pub text: TextBuffer<KEPT>,
@@ -25,19 +25,19 @@ pub struct RefusedField {
     pub reply: TextBuffer<KEPT>,
 }
 
-/// Where a field is.
+/// The position of a field.
 #[derive(Clone, Copy, Debug, PartialEq, Eq)]
 pub struct FieldPlace {
-    /// The number of its record, a header too, from 1.
+    /// The number of its record, from 1, counting a header.
     pub record: u64,
-    /// The number of the line that its record begins in, from 1.
+    /// The number of the line where its record begins, from 1.
     pub line: u64,
-    /// Its place in the record, from 0.
+    /// Its index in the record, from 0.
     pub column: usize,
 }
 
-/// What is known of the records of a text: where the one at hand begins, the field that is answered, the header, which
-/// of the words that ask for columns was looked for under it last, and the first field that was refused.
+/// What is known of the records of a text: where the current one begins, its current field, the header, the last
+/// operand looked up in the header, and the first refused field.
 #[derive(Drop)]
 pub struct ColumnWatch {
     line: Cell<u64>,
@@ -51,14 +51,14 @@ pub struct ColumnWatch {
     first: Cell<Option<RefusedField>>,
 }
 
-/// The bytes, cut where they are longer than what is kept.
+/// Returns the bytes, cut to what is kept.
 fn kept<const N: usize>(bytes: &[u8]) -> TextBuffer<N> {
     let mut text = TextBuffer::new();
     text.push_bytes(&bytes[..N.min(bytes.len())]);
     text
 }
 
-/// How many of the bytes are newlines.
+/// Counts the newlines in the bytes.
 fn newlines_in(bytes: &[u8]) -> u64 {
     let mut rest = bytes;
     let mut count = 0u64;
@@ -70,7 +70,7 @@ fn newlines_in(bytes: &[u8]) -> u64 {
 }
 
 impl ColumnWatch {
-    /// No record was seen of a text whose first line has this number.
+    /// A watch before the first record of a text whose first line has this number.
     pub fn new(line: u64) -> ColumnWatch {
         ColumnWatch {
             line: Cell::new(line),
@@ -85,12 +85,12 @@ impl ColumnWatch {
         }
     }
 
-    /// The header, where there is one: its first bytes. It is kept no longer.
+    /// Takes the first bytes of the header, if any.
     pub fn header(&self) -> Option<TextBuffer<KEPT_HEADER>> {
         self.header.take()
     }
 
-    /// Where the field is that is answered.
+    /// Returns the position of the current field.
     pub fn place(&self) -> FieldPlace {
         FieldPlace {
             record: self.record.get(),
@@ -99,18 +99,18 @@ impl ColumnWatch {
         }
     }
 
-    /// The place of the word that was looked for last under the header.
+    /// Returns the index of the operand that was last looked up in the header.
     pub fn word(&self) -> usize {
         self.word.get()
     }
 
-    /// The first field that was refused. It is kept no longer.
+    /// Takes the first refused field.
     pub fn first(&self) -> Option<RefusedField> {
         self.first.take()
     }
 
-    /// A record, or an empty line, is to be answered. A newline after a carriage return ends no line of its own. A
-    /// plain record has no newline.
+    /// Begins a record or an empty line. A newline after a carriage return does not end another line. A plain record
+    /// has no newline.
     #[inline]
     pub(crate) fn begin_row(&self, body: &[u8], end: &[u8], is_plain: bool) {
         let is_second = self.is_after_return.get() && body.is_empty() && end == b"\n".as_slice();
@@ -127,28 +127,28 @@ impl ColumnWatch {
         }
     }
 
-    /// A record is to be answered that was read in parts.
+    /// Begins a record that was read in parts.
     pub(crate) fn begin_kept(&self, kept: &RecordBuffer, end: &[u8]) {
         self.begin_row(kept.as_slice(), end, false);
     }
 
-    /// The record at hand is the header.
+    /// Keeps the header, which is the current record.
     pub(crate) fn keep_header(&self, body: &[u8]) {
         self.header.set(Some(kept(body)));
     }
 
-    /// A word is looked for under the header.
+    /// Begins looking up an operand in the header.
     pub(crate) fn look_for(&self, word: usize) {
         self.word.set(word);
     }
 
-    /// A field of the record at hand is to be answered.
+    /// Begins a field of the current record.
     #[inline]
     pub(crate) fn begin_field(&self, column: usize) {
         self.column.set(column);
     }
 
-    /// A field of the record at hand is refused.
+    /// Keeps a refused field of the current record, if it is the first.
     #[inline(never)]
     pub(crate) fn refuse(&self, column: usize, text: &[u8], reply: &[u8]) {
         if self.has_refused.get() {

@@ -1,4 +1,4 @@
--- One report, and one code.
+-- A run has one report and one exit code.
 use Rattle.std.proofs.Common.{◌≡◌, ◌-◌, ◌^◌, ◌<◌, ℕ, List, [], ◌∷◌, Some, inl, inr, refl, sym, ap, ◌∙◌}
 use Rattle.line_engine.specs.Program.{Outside}
 use Rattle.line_engine.specs.Status.{code_of}

@@ -1,4 +1,4 @@
--- An error has one reason why there are no arguments.
+-- The kind of an error gives just one reason for missing arguments.
 use Rattle.std.proofs.Common.{refl}
 use Rattle.line_engine.specs.declared.program.NoArgs.TheVariants.{NoMemory, NotText}
 use Rattle.fixed_io.specs.Laws.{WhyIsTheOne}

@@ -1,4 +1,4 @@
--- What the laws of this crate say.
+-- The statements of this crate's laws.
 use Rattle.std.specs.Prelude.{◌≡◌, ◌<◌, ◌-◌, ◌^◌, ℕ, List, Some}
 use Rattle.std.specs.declared.io.ErrorKind.{ErrorKind}
 use Rattle.line_engine.specs.Program.{EndsAs, Outside}
@@ -7,17 +7,17 @@ use Rattle.line_engine.specs.declared.status.Status.{Status}
 use Rattle.fixed_io.specs.Process.{IsWhy, RunsBetween}
 use Rattle.fixed_io.specs.Report.{TellsEnd}
 
--- an error has one reason why there are no arguments
+-- the kind of an error determines the reason for missing arguments
 abbrev pub WhyIsTheOne : Type 0
 WhyIsTheOne = (kind : ErrorKind) (a b : NoArgs) → IsWhy kind a → IsWhy kind b → a ≡ b
 
--- where no write of it failed, one report is made of a run
+-- a run has one report, if no write of the report failed
 abbrev pub ReportIsTheOne : Type 0
 ReportIsTheOne = (place : List ℕ) (code answered : ℕ) (before a b : List ℕ) (failures : ℕ) → failures < 2 ^ 64 - 1
     → TellsEnd place code answered (Some before) (Some a) failures failures
     → TellsEnd place code answered (Some before) (Some b) failures failures → a ≡ b
 
--- if what is outside, but for its steps, says how a program's runs end, it says so of its process and of the code
+-- if the states before and after a run determine its status, whatever its steps, they determine the code of its process
 abbrev pub RunBetweenIsTheOne : (Outside → Outside → Status → Type 0) → Type 0
 RunBetweenIsTheOne Runs = (before after : ℕ → Outside) (code other : ℕ)
     → ((m n : ℕ) (s t : Status) → Runs (before 0) (after m) s → Runs (before 0) (after n) t → s ≡ t)

@@ -7,13 +7,12 @@ use Rattle.line_engine.specs.declared.status.Status.{Status}
 use Rattle.line_engine.specs.declared.program.NoArgs.{NoArgs}
 use Rattle.line_engine.specs.declared.program.NoArgs.TheVariants.{NoMemory, NotText}
 
--- why there are no arguments, by the kind of the error with which they were refused: want of memory exactly where it
--- says so
+-- the reason for missing arguments, by the kind of the error: lack of memory exactly if the kind says so
 abbrev pub IsWhy : ErrorKind → NoArgs → Type 0
 IsWhy kind NoMemory = kind ≡ OutOfMemory
 IsWhy kind NotText = ¬ (kind ≡ OutOfMemory)
 
--- a run on a new counter went from one state of the outside to another, which is named but for the steps
+-- a run with a new counter of steps led from `before` to `after`, which are functions of the steps
 pub record RunsBetween (before after : ℕ → Outside) (Runs : Outside → Outside → Status
     → Type 0) (status : Status) : Type 0 where
   pub steps : ℕ

@@ -7,17 +7,17 @@ ghost use Rattle.fixed_io.specs.Laws.{ReportIsTheOne, RunBetweenIsTheOne, WhyIsT
 use line_engine::Program;
 use std::sync::ledger::Ledger;
 
-/// An error has one reason why there are no arguments.
+/// An error determines why there are no arguments.
 pub fn why_is_the_one()
     ensures { WhyIsTheOne }
 {}
 
-/// One report is made of a run, if no write of it fails.
+/// A run has one report if no write of the report fails.
 pub fn report_is_the_one()
     ensures { ReportIsTheOne }
 {}
 
-/// A process ends with one code, if what is outside says how a run of its program ends.
+/// A process has one exit code if what is outside determines how a run of its program ends.
 pub fn run_between_is_the_one<P: Program<L>, L: Ledger>(_program: &P)
     ensures { (args : List (String Global)) → RunBetweenIsTheOne (P.Runs _program.now args) }
 {}

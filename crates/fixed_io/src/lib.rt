@@ -1,5 +1,5 @@
-//! Sources and sinks over the readers and writers of std; the arguments and streams of a process; and the line on
-//! standard error that says why a run did not end well.
+//! Sources and sinks over the readers and writers of std, the arguments and streams of a process, and the line on
+//! standard error that says why a run failed.
 #![tactic(auto)]
 
 pub mod laws;

@@ -1,12 +1,12 @@
-//! How many newlines there are among bytes.
+//! Counts newlines in bytes.
 
 ghost use Rattle.std.specs.Prelude.{◌≡◌, ◌≤◌, length};
 ghost use Rattle.fixed_io.specs.Report.{newlines_of};
 
-/// How many bytes are counted at a time, in a byte: so the compiler compares and counts sixteen of them at once.
+/// How many bytes are counted at a time, in a `u8`, so that the compiler compares and counts sixteen of them at once.
 const PART: usize = 192;
 
-/// How many of at most 192 bytes are newlines.
+/// Counts the newlines in at most 192 bytes.
 fn newlines_in_part(part: &[u8]) -> u8
     requires { length part.now ≤ 192 }
     ensures { result ≡ newlines_of part.now }
@@ -18,7 +18,7 @@ fn newlines_in_part(part: &[u8]) -> u8
     found
 }
 
-/// How many of the bytes are newlines.
+/// Counts the newlines in `bytes`.
 pub fn newlines_in(bytes: &[u8]) -> usize
     ensures { result ≡ newlines_of bytes.now }
 {

@@ -11,7 +11,7 @@ use std::io::ErrorKind;
 use std::rt::Env;
 use std::{env, io};
 
-/// The arguments, or why there are none: want of memory, or else one that is not text.
+/// Returns the arguments, or why there are none: no memory, or else an argument that is not text.
 fn args_or_why(args: io::Result<Vec<String>>) -> Result<Vec<String>, NoArgs>
     ensures { MatchResult args (λ all. result ≡ Ok all) (λ error. (why : NoArgs) × (result ≡ Err why)
         × IsWhy (error_kind error) why) }
@@ -23,13 +23,13 @@ fn args_or_why(args: io::Result<Vec<String>>) -> Result<Vec<String>, NoArgs>
     }
 }
 
-/// The arguments after the program's name, as the process has them.
+/// Returns the arguments of the process after the program's name.
 fn process_args<R: Env + AllocGlobal>(rt: &R) -> io::Result<Vec<String>> {
     let args: Vec<String> = env::args(rt)?.skip(1).collect(rt.alloc())?;
     Ok(args)
 }
 
-/// The arguments after the program's name; or why there are none.
+/// Returns the arguments after the program's name, or why there are none.
 pub fn program_args<R: Env + AllocGlobal>(rt: &R) -> Result<Vec<String>, NoArgs> {
     args_or_why(process_args(rt))
 }

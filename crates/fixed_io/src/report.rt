@@ -1,4 +1,4 @@
-//! What is said of a run that did not end well: one line, on a sink of its own.
+//! The report of a run that failed: one line, on its own sink.
 
 ghost use Rattle.std.specs.Prelude.{◌≡◌, ◌≤◌, ◌<◌, length};
 ghost use Rattle.fixed_io.specs.Report.{TellsEnd, cause_of, end_line};
@@ -7,10 +7,10 @@ use itoa::Buffer;
 use line_engine::{Sink, Status, write_text};
 use text_buffer::TextBuffer;
 
-/// How many bytes a place has at most.
+/// The longest place in a report, in bytes.
 pub const MAX_PLACE: usize = 256;
 
-/// Why a run ended with this code: the empty text for 0, 1 and 2, whose reason is in the output.
+/// Returns why a run ended with this code; empty for 0, 1 and 2, whose reason is in the output.
 fn cause(code: u8) -> &'static str
     ensures cause { result.now ≡ cause_of code }
     ensures short { length result.now ≤ 64 }
@@ -24,7 +24,7 @@ fn cause(code: u8) -> &'static str
     }
 }
 
-/// The line that says where and why a run ended, and how many lines it had answered.
+/// Returns the line that says where and why a run ended, and how many lines it had answered.
 fn end_line(place: &[u8], cause: &str, answered: u64) -> TextBuffer<512>
     requires place { length place.now ≤ 256 }
     requires cause { length cause.now ≤ 64 }
@@ -41,8 +41,8 @@ fn end_line(place: &[u8], cause: &str, answered: u64) -> TextBuffer<512>
     text
 }
 
-/// Says in one line where and why a run ended with a code from 3 on, and how many lines it had answered; for any other
-/// code it writes nothing. The place, of at most 256 bytes, is the program's name, and a file's where there is one.
+/// Writes one line on where and why a run ended with a code of at least 3, and after how many answered lines; for any
+/// other code nothing. The place, of at most 256 bytes, is the program's name, and a file's if there is one.
 pub fn report_end<K: Sink>(place: &[u8], code: u8, answered: u64, errors: &mut K)
     requires { length place.now ≤ 256 }
     ensures { TellsEnd place.now code answered (K.written errors.old) (K.written errors.new) (K.failures errors.old)

@@ -1,13 +1,13 @@
 //! A source over any reader and a sink over any writer. They expose the bytes that the reader has left and that the
-//! writer holds, where these are known: those of readers and writers of memory are, those of the process's own streams
-//! are not. The source doesn't expose what it was asked for.
+//! writer holds, if these are known: they are for readers and writers in memory, but not for the process's own streams.
+//! The source does not expose what its reads requested.
 //!
-//! Each `Err` of the reader or the writer counts as a failure, an interrupted call too: a program that sets no handler
-//! for signals meets none. What a writer keeps for itself, as a `BufWriter` does, is written only once its owner
-//! flushes it: the programs give a writer that hands its bytes on at once.
+//! Each `Err` of the reader or the writer counts as a failure, even of an interrupted call: a program without signal
+//! handlers has none. Bytes that a writer buffers, such as a `BufWriter`, are written only when its owner flushes it:
+//! the programs pass a writer that does not buffer.
 //!
-//! A read or write that would block is a failure too. The programs may not wait, since they have no handle that blocks,
-//! and it is the caller who sets a stream not to block. Otherwise the system waits.
+//! A read or write that would block is a failure too. The programs cannot wait, since they have no handle that blocks,
+//! and only the caller makes a stream non-blocking. Otherwise the system waits.
 
 ghost use Rattle.std.specs.Prelude.{◌≡◌, ◌+◌, ◌-◌, ◌^◌, min, None};
 
@@ -15,7 +15,7 @@ use crate::newlines::newlines_in;
 use line_engine::{Failed, Sink, Source};
 use std::io::{Read, Write};
 
-/// A source over a reader. It counts the reads that failed.
+/// A source over a reader. It counts the failed reads.
 #[derive(Drop)]
 pub struct StdSource<R: Read> {
     reader: R,
@@ -68,7 +68,7 @@ impl<R: Read> Source for StdSource<R> {
     }
 }
 
-/// A sink over a writer. It counts the writes that failed, and the newlines that the writer took.
+/// A sink over a writer. It counts the failed writes and the newlines that the writer took.
 #[derive(Drop)]
 pub struct StdSink<W: Write> {
     writer: W,
@@ -90,8 +90,8 @@ impl<W: Write> StdSink<W> {
         }
     }
 
-    /// How many newlines the writer took: the count of answered lines, where each answer is a line. It stays at the
-    /// last value of u64.
+    /// Returns how many newlines the writer took: the count of answered lines if each answer is a line. It stays at
+    /// `u64::MAX`.
     pub fn lines(&self) -> u64
         ensures { result ≡ self.now.lines }
     {
@@ -110,8 +110,8 @@ impl<W: Write> Sink for StdSink<W> {
 
     ghost failures = { λ s. s.failures };
 
-    /// Writes once. An `Err` of the writer raises the count of failures by one, and so does a write of no byte of a
-    /// piece that isn't empty. The newlines among the bytes that the writer took are counted.
+    /// Writes once. An `Err` of the writer raises the count of failures by one, and so does a write that takes no byte
+    /// of a piece that is not empty. Counts the newlines in the bytes that the writer took.
     fn write(&mut self, piece: &[u8]) -> Result<usize, Failed>
         ensures bound { WritesAtMost result piece.now }
         ensures bytes { WriteAppends (W.contents self.old.writer) (W.contents self.new.writer) result piece.now }

@@ -1,4 +1,4 @@
-//! A program over the streams of its process, with a counter of steps of its own.
+//! A program over the streams of its process, with its own counter of steps.
 
 ghost use Rattle.std.specs.Prelude.{◌≡◌, ◌<◌, ◌≤◌, IfOk, Err, None, length};
 ghost use Rattle.fixed_io.specs.Process.{RunsBetween};
@@ -17,17 +17,17 @@ use std::alloc::Global;
 use std::io::{Read, Stderr, Stdin, Stdout, Write};
 use std::sync::ledger::{Blank, Ledger};
 
-/// Where a program reports that it did not end well: its name, of at most 256 bytes, and a sink.
+/// Where a program reports that it failed: its name, of at most 256 bytes, and a sink.
 #[derive(Drop)]
 pub struct Reports<'a, K: Sink> {
     /// The name.
     pub name: &'a [u8],
-    /// Where the line goes.
+    /// The sink for the line.
     pub sink: K,
 }
 
-/// Runs a program by its arguments over a reader and a writer, with a counter of steps of its own, and answers the code
-/// with which its process ends. Where that is 3 or more, one line says why and after how many answered lines.
+/// Runs a program by its arguments over a reader and a writer, with its own counter of steps, and returns the exit code
+/// of its process. If that is 3 or more, one line says why, and how many lines were answered.
 pub fn run_streams<P: Program<L>, R: Read + Drop, W: Write + Drop, K: Sink, L: Ledger>(
     program: &P,
     alloc: Global,
@@ -61,8 +61,8 @@ pub fn run_streams<P: Program<L>, R: Read + Drop, W: Write + Drop, K: Sink, L: L
     code
 }
 
-/// Runs a program of this name by the arguments of its process, from standard input to standard output; why it did not
-/// end well goes to standard error.
+/// Runs a program with this name by the arguments of its process, from standard input to standard output. Reports on
+/// standard error why it failed.
 pub fn run_process<P: Program<L>, L: Ledger>(
     rt: &HostRuntime,
     name: &[u8],

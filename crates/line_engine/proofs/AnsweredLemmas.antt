@@ -1,4 +1,4 @@
--- Lines that were answered, one after the other.
+-- Lines answered one after the other.
 use Rattle.std.proofs.Common.{◌≡◌, ℕ, ◌+◌, ◌*◌, ◌<◌, ◌≤◌, ◌↔◌, Bool, false, ◌||◌, List, [], ◌∷◌, ◌++◌, length, take, refl, sym, ap, ◌∙◌, subst, arith, append_assoc, append-nil, length-append, ⊎_elim, Option, mul-le-mul_left}
 use Rattle.std.proofs.lemmas.Grind.{common_steps, flat_map-append}
 use Rattle.std.proofs.lemmas.List.{take_all, length-take}
@@ -28,7 +28,7 @@ pub bytes_in-append : (lines more : List (List ℕ)) → bytes_in (lines ++ more
 bytes_in-append [] more = omega arith
 bytes_in-append (line ∷ lines) more = omega (arith, bytes_in-append lines more)
 
--- answers to lines, and to the lines after them
+-- answers to some lines, and to the lines after them
 pub AreAnswers-append : (A : List ℕ → AnswerText → Type 0) (lines more : List (List ℕ)) (replies others : List AnswerText) → AreAnswers A lines replies → AreAnswers A more others → AreAnswers A (lines ++ more) (replies ++ others)
 AreAnswers-append A [] more [] others first next = next
 AreAnswers-append A [] more (reply ∷ replies) others first next = absurd first
@@ -40,7 +40,7 @@ module _ (A : List ℕ → AnswerText → Type 0) (per_byte extra : ℕ) where
   pub answered_none : (s : State) → Flushes s.held [] s.held s.written s.written → Answered A per_byte extra [] s s
   answered_none s passes = record { replies = []; answers = tt; passes = passes; faulty = sym (or_false s.fault); cost = omega arith }
 
-  -- one was
+  -- one line was answered
   pub answered_one : (line : List ℕ) (s t : State) → AnsweredLine A per_byte extra line s t → Answered A per_byte extra (line ∷ []) s t
   answered_one line s t one = record {
     replies = one.reply ∷ [];
@@ -62,7 +62,7 @@ module _ (A : List ℕ → AnswerText → Type 0) (per_byte extra : ℕ) where
     cost = omega (arith, stop.cost);
   }
 
-  -- some lines, and those after them
+  -- some lines, and the lines after them
   pub answered_both : (lines more : List (List ℕ)) (s t u : State) → Answered A per_byte extra lines s t → Answered A per_byte extra more t u → Answered A per_byte extra (lines ++ more) s u
   answered_both lines more s t u first next = record {
     replies = first.replies ++ next.replies;
@@ -74,7 +74,7 @@ module _ (A : List ℕ → AnswerText → Type 0) (per_byte extra : ℕ) where
     cost = omega (arith, first.cost, next.cost, ap (λ n. per_byte * n) (bytes_in-append lines more), ap (λ n. extra * n) (length-append lines more));
   }
 
-  -- the answers stopped before the lines after
+  -- the answers stopped among the first lines
   pub broken_first : (lines more : List (List ℕ)) (s : State) (written : Option (List ℕ)) (steps : ℕ) → AnswersUntilFailure A per_byte extra lines s written steps → AnswersUntilFailure A per_byte extra (lines ++ more) s written steps
   broken_first lines more s written steps part = record {
     some = part.some;
@@ -86,7 +86,7 @@ module _ (A : List ℕ → AnswerText → Type 0) (per_byte extra : ℕ) where
     cost = part.cost;
   }
 
-  -- and among them
+  -- the answers stopped among the lines after them
   pub broken_second : (lines more : List (List ℕ)) (s t : State) (written : Option (List ℕ)) (steps : ℕ) → Answered A per_byte extra lines s t → AnswersUntilFailure A per_byte extra more t written steps → AnswersUntilFailure A per_byte extra (lines ++ more) s written steps
   broken_second lines more s t written steps first part = record {
     some = lines ++ part.some;
@@ -99,7 +99,7 @@ module _ (A : List ℕ → AnswerText → Type 0) (per_byte extra : ℕ) where
     cost = omega (arith, first.cost, part.cost, ap (λ n. per_byte * n) (bytes_in-append lines part.some), ap (λ n. extra * n) (length-append lines part.some));
   }
 
-  -- what was gathered is written
+  -- the gathered bytes are written
   pub answered_flushed : (lines : List (List ℕ)) (s t : State) (written : Option (List ℕ)) → Answered A per_byte extra lines s t → Appends t.written written t.held → Answered A per_byte extra lines s (state [] written t.fault t.steps)
   answered_flushed lines s t written first last = record {
     replies = first.replies;
@@ -113,7 +113,7 @@ module _ (A : List ℕ → AnswerText → Type 0) (per_byte extra : ℕ) where
     cost = first.cost;
   }
 
-  -- a prefix of what was gathered is written
+  -- a prefix of the gathered bytes is written
   pub broken_flush : (lines : List (List ℕ)) (s t : State) (written : Option (List ℕ)) → Answered A per_byte extra lines s t → AppendsPrefix t.written written t.held → AnswersUntilFailure A per_byte extra lines s written t.steps
   broken_flush lines s t written first part = record {
     some = lines;
@@ -125,7 +125,7 @@ module _ (A : List ℕ → AnswerText → Type 0) (per_byte extra : ℕ) where
     cost = first.cost;
   }
 
--- a line of which n bytes are kept has the answer of what is kept
+-- a line of more than n bytes has the answers of its first n bytes
 abbrev pub Keeping : (List ℕ → AnswerText → Type 0) → ℕ → Type 0
 Keeping A n = (line : List ℕ) (reply : AnswerText) → n < length line → (A (take n line) reply) ↔ (A line reply)
 

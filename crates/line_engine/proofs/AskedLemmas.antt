@@ -1,13 +1,13 @@
--- What a source was asked for so far, while a run reads.
+-- The requests to a source so far, while a run reads.
 use Rattle.std.proofs.Common.{◌≡◌, ℕ, ◌+◌, ◌≤◌, Option, Some, None, Result, refl, sym, subst, arith}
 use Rattle.line_engine.specs.Asked.{Asked, AskedWithin, HasAsked, IsAskedWithin, count_given, longest_chunk, one_more}
 
--- this many bytes were given since then, and no read asked for too much
+-- the source gave `taken` bytes since `old`, and no read requested too much
 pub record IsAskedSoFar (limit taken : ℕ) (old now : Asked) : Type 0 where
   pub given : now.given ≡ old.given + taken
   pub within : IsAskedWithin limit old now
 
--- and so where the source exposes it
+-- the same for a source that may not expose its requests
 abbrev pub AskedSoFar : ℕ → ℕ → Option Asked → Option Asked → Type 0
 AskedSoFar limit taken None now = now ≡ None
 AskedSoFar limit taken (Some old) None = ⊥
@@ -34,12 +34,12 @@ so_far_more limit taken room (Some old) (Some now) next result chunk fits is ask
     let P : Option Asked → Type 0 = λ a. AskedSoFar limit (taken + count_given result) (Some old) a in
     subst P (sym asks) (more limit taken room (count_given result) old now chunk fits is)
 
--- what a run has asked for when it ends
+-- at the end of a run its requests are within the limit
 pub so_far_within : (limit taken : ℕ) (old now : Option Asked) → AskedSoFar limit taken old now → AskedWithin limit old now
 so_far_within limit taken None now is = is
 so_far_within limit taken (Some old) None is = is
 so_far_within limit taken (Some old) (Some now) is = is.within
 
--- nothing was asked for
+-- a run without a read requests nothing
 pub within_none : (limit : ℕ) (asked : Option Asked) → AskedWithin limit asked asked
 within_none limit asked = so_far_within limit 0 asked asked (so_far_none limit asked)

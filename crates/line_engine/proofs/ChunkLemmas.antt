@@ -1,4 +1,4 @@
--- What the next bytes of an input do to the lines of the bytes before them.
+-- How the next bytes of an input change the lines of the bytes before them.
 use Rattle.std.proofs.Common.{◌≡◌, ℕ, zero, suc, ◌+◌, ◌-◌, ◌<◌, ◌≤◌, min, true, false, Bool, eqb, List, [], ◌∷◌, ◌++◌, length, take, drop, get_or, sym, ap, ◌∙◌, refl, arith, append_assoc, append-nil, ⊎_elim}
 use Rattle.std.proofs.lemmas.Grind.{common_steps}
 use Rattle.std.proofs.lemmas.List.{take-append-drop, drop_more, take_rest, take_all, length-take, get_or-take, take-take}
@@ -9,7 +9,7 @@ use Rattle.line_engine.specs.Lines.{ended_lines, unended, last_line}
 use Rattle.line_engine.specs.Inner.Progress.{IsKept}
 use Rattle.line_engine.proofs.LineLemmas.{ended_lines-append, unended-append, ended_lines-unended, unended_none, ended_lines_at, unended_at, ended_lines_without, ended_lines_both}
 
--- the first newline of these bytes is at this place
+-- the first newline of `bytes` is at index `end`
 pub record EndsAt (bytes : List ℕ) (end : ℕ) : Type 0 where
   pub fits : end < length bytes
   pub cut : bytes ≡ take end bytes ++ 10 ∷ drop (end + 1) bytes
@@ -34,13 +34,13 @@ ends_at bytes end first here = record {
 pub ends_nowhere : (bytes : List ℕ) → Nowhere (Passes (is_byte 10) bytes) 0 (length bytes) → ended_lines bytes ≡ []
 ends_nowhere bytes none = ended_lines_without bytes (λ k below is. none k (omega arith) below is)
 
--- bytes after a prefix that is kept
+-- the first n bytes of two lists need only the first n bytes of the first list
 pub take_kept : (n : ℕ) (xs ys : List ℕ) → take n (take n xs ++ ys) ≡ take n (xs ++ ys)
 take_kept zero xs ys = refl
 take_kept (suc n) [] ys = refl
 take_kept (suc n) (x ∷ xs) ys = ap (λ l. x ∷ l) (take_kept n xs ys)
 
--- the lines of bytes, and of a newline after a piece of a line
+-- the lines of bytes that are followed by a piece of a line and its newline
 pub ended_lines_line : (bytes part more : List ℕ) → ended_lines part ≡ [] → ended_lines (bytes ++ (part ++ 10 ∷ more)) ≡ ended_lines bytes ++ (unended bytes ++ part) ∷ ended_lines more
 ended_lines_line bytes part more quiet =
     let none : ended_lines (unended bytes ++ part) ≡ [] = ended_lines_both (unended bytes) part (ended_lines-unended bytes) quiet in
@@ -55,7 +55,7 @@ unended_line bytes part more quiet =
     ∙ ap unended (sym (append_assoc (unended bytes) part (10 ∷ more)))
     ∙ unended_at (unended bytes ++ part) more none
 
--- and of a piece in which no line ends
+-- the lines of bytes that are followed by a piece in which no line ends
 pub ended_lines_quiet : (bytes part : List ℕ) → ended_lines part ≡ [] → ended_lines (bytes ++ part) ≡ ended_lines bytes
 ended_lines_quiet bytes part quiet =
     let none : ended_lines (unended bytes ++ part) ≡ [] = ended_lines_both (unended bytes) part (ended_lines-unended bytes) quiet in
@@ -65,7 +65,7 @@ pub unended_quiet : (bytes part : List ℕ) → ended_lines part ≡ [] → unen
 unended_quiet bytes part quiet =
     unended-append bytes part ∙ unended_none (unended bytes ++ part) (ended_lines_both (unended bytes) part (ended_lines-unended bytes) quiet)
 
--- what the next line of a piece leaves, where n bytes of the line are kept
+-- the next line of a piece ends at `end`: the cut of the piece, and the lines that ended
 pub record Next (n : ℕ) (whole piece prefix rest : List ℕ) (end : ℕ) : Type 0 where
   pub cut : piece ≡ (prefix ++ (take end rest ++ 10 ∷ [])) ++ take (length rest - (end + 1)) (drop (end + 1) rest)
   pub one_more : ended_lines (whole ++ (prefix ++ (take end rest ++ 10 ∷ []))) ≡ ended_lines (whole ++ prefix) ++ (unended (whole ++ prefix) ++ take end rest) ∷ []
@@ -89,7 +89,7 @@ pub same_lines : (whole piece prefix rest : List ℕ) → piece ≡ prefix ++ re
 same_lines whole piece prefix rest split quiet =
     ap (λ l. ended_lines (whole ++ l)) split ∙ ap ended_lines (sym (append_assoc whole prefix rest)) ∙ ended_lines_quiet (whole ++ prefix) rest quiet
 
--- and what is kept after it
+-- the kept bytes after the rest of the piece
 pub last_line_kept : (n : ℕ) (whole piece prefix rest line : List ℕ) → piece ≡ prefix ++ rest → line ≡ take n (unended (whole ++ prefix)) → ended_lines rest ≡ [] → take n (line ++ rest) ≡ take n (unended (whole ++ piece))
 last_line_kept n whole piece prefix rest line split kept quiet =
     ap (λ l. take n (l ++ rest)) kept ∙ take_kept n (unended (whole ++ prefix)) rest
@@ -100,25 +100,25 @@ pub nothing_kept : (n : ℕ) → ◌≡◌ {A = List ℕ} (take n []) []
 nothing_kept zero = refl
 nothing_kept (suc n) = refl
 
--- what is kept of a line is empty only where the line is
+-- the kept bytes of a line are empty only if the line is
 pub none_kept : (n : ℕ) (whole : List ℕ) → 0 < n → [] ≡ take n whole → whole ≡ []
 none_kept zero whole some none = absurd (omega arith)
 none_kept (suc n) [] some none = refl
 none_kept (suc n) (b ∷ whole) some none = let no : ⊥ = cc in absurd no
 
--- what is unended is kept
+-- the first n unended bytes are the kept bytes of the line
 pub kept_unended : (n : ℕ) (bytes line : List ℕ) → line ≡ take n (unended bytes) → IsKept n (unended bytes) line
 kept_unended n bytes line is = record { quiet = ended_lines-unended bytes; prefix = is }
 
--- a part after a line of which nothing is kept is the whole line
+-- a part after a line without kept bytes is the whole line
 pub whole_part : (n : ℕ) (whole kept part : List ℕ) → 0 < n → IsKept n whole kept → kept ≡ [] → part ≡ whole ++ part
 whole_part n whole kept part some is none = ap (λ l. l ++ part) (sym (none_kept n whole some (sym none ∙ is.prefix)))
 
--- and after one of which some is kept it is kept with it
+-- a part after kept bytes is kept after them
 pub part_kept : (n : ℕ) (whole kept part appended slice : List ℕ) → IsKept n whole kept → appended ≡ take n (kept ++ part) → slice ≡ appended → slice ≡ take n (whole ++ part)
 part_kept n whole kept part appended slice is more same = same ∙ more ∙ ap (λ l. take n (l ++ part)) is.prefix ∙ take_kept n whole part
 
--- the last line, where nothing is kept of it, and where some is
+-- the last line, without kept bytes and with some
 pub no_last : (n : ℕ) (whole kept : List ℕ) → 0 < n → IsKept n whole kept → kept ≡ [] → [] ≡ last_line whole
 no_last n whole kept some is none = ap last_line (sym (none_kept n whole some (sym none ∙ is.prefix)))
 
@@ -126,7 +126,7 @@ pub one_last : (n : ℕ) (whole kept : List ℕ) (empty : Bool) → IsKept n who
 one_last n [] kept empty is none some = let no : empty ≡ true = none (is.prefix ∙ nothing_kept n) in cc
 one_last n (b ∷ whole) kept empty is none some = ap (λ l. l ∷ []) (append-nil (b ∷ whole))
 
--- what of the bytes read lies within the limit
+-- the bytes read that lie within the limit
 pub within_limit : (limit count : ℕ) (bytes buf : List ℕ) → length bytes ≤ limit → take limit (bytes ++ take count buf) ≡ bytes ++ take (min count (limit - length bytes)) buf
 within_limit limit count bytes buf fits =
     let room = limit - length bytes in

@@ -1,4 +1,4 @@
--- A run whose source and sink don't fail writes the whole output of an input within the limit.
+-- A run writes the whole output of an input within the limit, if its source and its sink do not fail.
 use Rattle.std.proofs.Common.{◌≡◌, ℕ, ◌<◌, ◌≤◌, Bool, true, false, List, [], ◌∷◌, ◌++◌, length, refl, sym, ap, ◌∙◌, subst, arith, append-nil, append_assoc, inr, inl, ◌⊎◌, Option, None, Some, take, drop, ⊎_elim}
 use Rattle.std.proofs.lemmas.List.{take-append-drop}
 use Rattle.std.specs.Io.KnownBytes.{Consumes, IsAtEnd}
@@ -36,7 +36,7 @@ module _ (A : List ℕ → AnswerText → Type 0) (limit : ℕ) (left left' writ
       let few : length run.bytes ≤ length input = few_taken left left' run.bytes input is run.taken in
       absurd (omega (arith, run.past))
 
-  -- and of a longer input it says so
+  -- a run over a longer input ends with TooLong or NoMemory
   pub complete_long : (read read' write write' : ℕ) (status : Status) → HasRun A limit left left' written written' status → HasFailures read read' write write' status
       → limit < length input → (HasFailed read read' → ⊥) → (HasFailed write write' → ⊥) → (status ≡ NoMemory) ⊎ (status ≡ TooLong)
   complete_long read read' write write' Done run cause past no_read no_write = absurd (omega (arith, run.within, ap length (all_taken left left' run.input input is run.taken run.at_end)))
@@ -58,7 +58,7 @@ same_prefix A one (line ∷ some) more (reply ∷ first) (other ∷ replies) ans
     let rest : (tail : List AnswerText) × (replies ≡ first ++ tail) = same_prefix A one some more first replies answers.1 all.1 in
     (rest.0, ap (λ r. r ∷ replies) (one line other reply all.0 answers.0) ∙ ap (λ l. reply ∷ l) rest.1)
 
--- bytes that were taken are a prefix of the input
+-- the bytes taken are a prefix of the input
 taken_prefix : (left left' : Option (List ℕ)) (bytes input : List ℕ) → left ≡ Some input → Consumes left left' bytes → (rest : List ℕ) × (input ≡ bytes ++ rest)
 taken_prefix None left' bytes input is taken = let no : ⊥ = cc in absurd no
 taken_prefix (Some xs) None bytes input is taken = absurd taken
@@ -73,7 +73,7 @@ module _ (A : List ℕ → AnswerText → Type 0) (one : (line : List ℕ) (a b 
       subst (AppendsPrefix written written') (sym (ap written_of tail.1 ∙ written_of-append prefix.replies tail.0))
       (part_first written written' (written_of prefix.replies) (written_of tail.0) prefix.output)
 
-  -- where writing was cut short, a prefix of the whole output of the input was written
+  -- if writing was cut short, a prefix of the whole output was written
   pub part_of_output : (limit : ℕ) → AnswersUntilWriteFault A limit left left' written written' → left ≡ Some input → AreAnswers A (lines input) replies → AppendsPrefix written written' (written_of replies)
   part_of_output limit part is answers =
       ⊎_elim

@@ -1,4 +1,4 @@
--- What the next bytes of a chunk make of the line that is kept, and of its answers.
+-- How the next bytes of a chunk change the kept line and the answers.
 use Rattle.std.proofs.Common.{◌≡◌, ℕ, ◌+◌, List, [], ◌∷◌, ◌++◌, take, drop, sym, ap, ◌∙◌, subst, append-nil, Option}
 use Rattle.line_engine.specs.Lines.{ended_lines, unended}
 use Rattle.line_engine.specs.Inner.Progress.{Answered, AnsweredLine, AnswersUntilFailure, StopsBefore, IsKept, Flushes, State}
@@ -7,7 +7,7 @@ use Rattle.line_engine.proofs.AnsweredLemmas.{answered_none, answered_one, answe
 use Rattle.line_engine.proofs.ChunkLemmas.{EndsAt, Next, next, kept_unended, nothing_kept}
 use Rattle.line_engine.proofs.LineLemmas.{unended_none}
 
--- after a line that hasn't ended this prefix of a chunk was fed: n bytes of the line are kept, and the lines that ended are answered
+-- a prefix of a chunk was fed after an unended line: n bytes of the line are kept, and the ended lines are answered
 pub record Fed (A : List ℕ → AnswerText → Type 0) (per_byte extra n : ℕ) (whole prefix line : List ℕ) (before after : State) : Type 0 where
   pub kept : line ≡ take n (unended (whole ++ prefix))
   pub answered : Answered A per_byte extra (ended_lines (whole ++ prefix)) before after
@@ -20,7 +20,7 @@ module _ (A : List ℕ → AnswerText → Type 0) (per_byte extra n : ℕ) where
     answered = subst (λ lines. Answered A per_byte extra lines s s) (sym (ap ended_lines (append-nil whole) ∙ kept.quiet)) (answered_none A per_byte extra s passes);
   }
 
-  -- one more line was
+  -- one more line was fed
   pub fed_more : (whole chunk prefix rest line new : List ℕ) (end : ℕ) (s t u : State) → chunk ≡ prefix ++ rest → EndsAt rest end → Fed A per_byte extra n whole prefix line s t
       → ((whole : List ℕ) → IsKept n whole line → AnsweredLine A per_byte extra (whole ++ take end rest) t u) → new ≡ []
       → Fed A per_byte extra n whole (prefix ++ (take end rest ++ 10 ∷ [])) new s u

@@ -9,7 +9,7 @@ use Rattle.line_engine.proofs.Public.{ended_lines_at, ended_lines_without, unend
 newline_is : (b : ℕ) → eqb b 10 ≡ true → b ≡ 10
 newline_is b is = grind (arith, common_steps)
 
--- ---- a stretch of bytes without a newline
+-- ---- bytes without a newline
 -- before a newline
 pub lines_at : (line rest : List ℕ) → ended_lines line ≡ [] → lines (line ++ 10 ∷ rest) ≡ line ∷ lines rest
 lines_at line rest quiet =
@@ -20,19 +20,19 @@ last_is : (text : List ℕ) → (text ≡ [] → ⊥) → last_line text ≡ tex
 last_is [] some = absurd (some refl)
 last_is (b ∷ bytes) some = refl
 
--- alone, where it is not empty
+-- alone, if they are not empty
 pub lines_alone : (text : List ℕ) → (text ≡ [] → ⊥) → ended_lines text ≡ [] → lines text ≡ text ∷ []
 lines_alone text some quiet =
     ap (λ l. l ++ last_line (unended text)) quiet ∙ (ap last_line (unended_none text quiet) ∙ last_is text some)
 
--- a line that holds no newline is one
+-- no line ends in a line that holds no newline
 pub quiet_line : (line : List ℕ) → (Contains line 10 → ⊥) → ended_lines line ≡ []
 quiet_line line never = ended_lines_without line (λ k below is. never (k, below, same k below is))
   where
     same : (k : ℕ) → k < length line → eqb (get_or line k 0) 10 ≡ true → get_or line k 10 ≡ 10
     same k below is = get_or_default line k 10 0 below ∙ newline_is (get_or line k 0) is
 
--- ---- where the search for a newline ended
+-- ---- the result of a search for a newline
 quiet_before : (text : List ℕ) (end : ℕ) → NoneBefore (Passes (is_byte 10) text) 0 (length text) end → ended_lines (take end text) ≡ []
 quiet_before text end first = ended_lines_without (take end text) (λ k below is. first.before k (omega arith) (before k below) (place k below is))
   where

@@ -15,7 +15,7 @@ cut_anywhere first rest = record {
       ∙ ap (λ l. ended_lines first ++ (ended_lines (unended first ++ rest) ++ last_line l)) (unended-append first rest);
 }
 
--- a byte before the first line, or before the rest where there is none
+-- a byte before the first line, or before the rest if no line ended
 before_all : (b : ℕ) (ls : List (List ℕ)) (rest : List ℕ) → flat_map with_newline (onto_first b ls) ++ onto_rest b ls rest ≡ b ∷ (flat_map with_newline ls ++ rest)
 before_all b [] rest = refl
 before_all b (line ∷ ls) rest = refl
@@ -28,7 +28,7 @@ pub lines_are_the_input : LinesAreTheInput
 lines_are_the_input [] = refl
 lines_are_the_input (b ∷ bytes) = again_by b bytes (eqb b 10) refl (lines_are_the_input bytes)
 
--- what the first element and the others are
+-- a member of a list is its first element or one of the others
 contains_cons : {X : Type 0} (x : X) (xs : List X) (y : X) → Contains (x ∷ xs) y → (x ≡ y) ⊎ Contains xs y
 contains_cons x xs y (zero, below, is) = inl is
 contains_cons x xs y (suc k, below, is) = inr (k, omega arith, is)
@@ -47,7 +47,7 @@ other_first b line is none here =
 nothing : {X : Type 0} (x : X) → Contains [] x → ⊥
 nothing x here = let below : here.0 < 0 = here.1 in omega arith
 
--- no line holds a newline, nor does what is unended
+-- neither a line nor the unended bytes hold a newline
 record Free (lines : List (List ℕ)) (rest : List ℕ) : Type 0 where
   each : (line : List ℕ) → Contains lines line → Contains line 10 → ⊥
   remaining : Contains rest 10 → ⊥

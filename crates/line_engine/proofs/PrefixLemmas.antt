@@ -1,4 +1,4 @@
--- What was written when a call stopped on its way.
+-- The bytes written by a call that stopped early.
 use Rattle.std.proofs.Common.{List, ℕ, [], ◌++◌, refl, sym, ap, ◌∙◌, append_assoc, append-nil, None, Some, subst}
 use Rattle.std.proofs.KnownBytes.{Appends-trans, Appends-nil}
 use Rattle.std.specs.Prelude.{Option, Result, Ok, Err, OnErr, OnOk}
@@ -33,12 +33,12 @@ part_second a b c bs cs first part = record {
   appends = Appends-trans a b c bs part.prefix first part.appends;
 }
 
--- a fact that holds anyhow holds at an error
+-- a fact that holds in any case holds at an error
 pub on_err : {T E P : Type 0} (r : Result T E) → P → OnErr r P
 on_err (Ok x) p = tt
 on_err (Err e) p = p
 
--- and where two pieces come one after the other
+-- two pieces, flushed one after the other
 pub flushes_both : (held more most held' held'' : List ℕ) (a b c : Option (List ℕ)) → Flushes held more held' a b → Flushes held' most held'' b c → Flushes held (more ++ most) held'' a c
 flushes_both held more most held' held'' a b c first next = record {
   gone = first.gone ++ next.gone;
@@ -46,7 +46,7 @@ flushes_both held more most held' held'' a b c first next = record {
   appends = Appends-trans a b c first.gone next.gone first.appends next.appends;
 }
 
--- a prefix of what is gathered and comes was written after what passed
+-- a prefix of the gathered bytes and the next ones was written after those that were flushed
 pub flushes_part : (held more held' most : List ℕ) (a b c : Option (List ℕ)) → Flushes held more held' a b → AppendsPrefix b c (held' ++ most) → AppendsPrefix a c ((held ++ more) ++ most)
 flushes_part held more held' most a b c first part =
     subst (AppendsPrefix a c) (sym (ap (λ l. l ++ most) first.split ∙ append_assoc first.gone held' most)) (part_second a b c first.gone (held' ++ most) first.appends part)

@@ -1,4 +1,4 @@
--- What the proofs of the crates above may cite.
+-- Lemmas for the proofs of dependent crates.
 use Rattle.std.specs.Prelude.{◌≡◌, ℕ, ◌<◌, ◌-◌, ◌^◌, ◌||◌, true, eqb, List, [], ◌∷◌, ◌++◌, length, get_or}
 use Rattle.line_engine.specs.AnswerText.{AnswerText}
 use Rattle.line_engine.specs.Failures.{HasFailed}
@@ -8,7 +8,7 @@ use Rattle.line_engine.specs.RunLaws.{OutputIsTheOne, WholeOutputIsTheOne}
 use Rattle.line_engine.proofs.AnsweredLemmas
 use Rattle.line_engine.proofs.LineLemmas
 use Rattle.line_engine.proofs.RunLawLemmas
--- what the engines above share
+-- lemmas that other engines share
 pub use Rattle.line_engine.proofs.AnsweredLemmas.{bytes_in-append}
 pub use Rattle.line_engine.proofs.AskedLemmas.{AskedSoFar, so_far_more, so_far_none, so_far_within}
 pub use Rattle.line_engine.proofs.ChunkLemmas.{
@@ -38,7 +38,7 @@ pub use Rattle.line_engine.proofs.LineLemmas.{
 pub use Rattle.line_engine.proofs.PrefixLemmas.{part_first}
 pub use Rattle.line_engine.proofs.TakenLemmas.{Consumes-kept, Consumes-none, all_taken, few_taken}
 
--- ---- answers to lines, and to the lines after them
+-- ---- answers to some lines, and to the lines after them
 pub AreAnswers-append : (A : List ℕ → AnswerText → Type 0) (lines more : List (List ℕ)) (replies others : List AnswerText) → AreAnswers A lines replies → AreAnswers A more others → AreAnswers A (lines ++ more) (replies ++ others)
 AreAnswers-append = AnsweredLemmas.AreAnswers-append
 
@@ -48,23 +48,23 @@ any_fault-append = AnsweredLemmas.any_fault-append
 pub written_of-append : (replies more : List AnswerText) → written_of (replies ++ more) ≡ written_of replies ++ written_of more
 written_of-append = AnsweredLemmas.written_of-append
 
--- by a meaning with one answer to a line, lines have one list of answers
+-- lines have one list of answers if each line has one answer
 pub answers_one : (A : List ℕ → AnswerText → Type 0) → ((line : List ℕ) (a b : AnswerText) → A line a → A line b → a ≡ b) → (ls : List (List ℕ)) (xs ys : List AnswerText) → AreAnswers A ls xs → AreAnswers A ls ys → xs ≡ ys
 answers_one = RunLawLemmas.answers_one
 
--- and their inputs one output and one status
+-- their input then has one output and one status
 pub output_one : (A : List ℕ → AnswerText → Type 0) → ((line : List ℕ) (a b : AnswerText) → A line a → A line b → a ≡ b) → OutputIsTheOne A
 output_one = RunLawLemmas.output_one
 
 pub whole_output_one : (A : List ℕ → AnswerText → Type 0) → ((input : List ℕ) (a b : AnswerText) → A input a → A input b → a ≡ b) → WholeOutputIsTheOne A
 whole_output_one = RunLawLemmas.whole_output_one
 
--- a count that can rise and is as it was has not risen
+-- a call did not fail if the count of failures can rise and did not
 pub not_failed : (before now : ℕ) → before < 2 ^ 64 - 1 → now ≡ before → HasFailed before now → ⊥
 not_failed = RunLawLemmas.not_failed
 
 -- ---- lines
--- no line ends where no byte is a newline
+-- no line ends in bytes without a newline
 pub ended_lines_without : (xs : List ℕ) → ((k : ℕ) → k < length xs → eqb (get_or xs k 0) 10 ≡ true → ⊥) → ended_lines xs ≡ []
 ended_lines_without = LineLemmas.ended_lines_without
 

@@ -1,4 +1,4 @@
--- What is written for an input, and how a run ends, is determined.
+-- An input has one output, and a run has one end.
 use Rattle.std.proofs.Common.{◌≡◌, ℕ, ◌+◌, ◌-◌, ◌^◌, ◌<◌, ◌≤◌, Bool, true, false, List, [], ◌∷◌, ◌++◌, length, Some, refl, sym, ap, subst, ◌∙◌, arith, inl, inr}
 use Rattle.std.proofs.lemmas.Bool.{false≢true}
 use Rattle.std.proofs.lemmas.List.{append_cancel_right}
@@ -13,14 +13,14 @@ use Rattle.line_engine.specs.declared.status.Status.{Status}
 use Rattle.line_engine.specs.declared.status.Status.TheVariants.{Done, Faults, Usage, ReadFault, WriteFault, NoMemory, TooLong}
 use Rattle.line_engine.specs.declared.whole.Filled.TheVariants.{End, TooLong as PastLimit, ReadFault as BadRead}
 
--- a count that can rise and is as it was has not risen
+-- a call did not fail if the count of failures can rise and did not
 pub not_failed : (before now : ℕ) → before < 2 ^ 64 - 1 → now ≡ before → HasFailed before now → ⊥
 not_failed before now room same failed = absurd (omega arith)
 
 taken_one : (left left' a b : List ℕ) → left ≡ a ++ left' → left ≡ b ++ left' → a ≡ b
 taken_one left left' a b x y = append_cancel_right a b left' (sym x ∙ y)
 
--- what the ends of two runs have in common: both answered all, with a fault or without one, or both took more than the limit
+-- what a status says of the input: it was answered, with a fault or without one, or is longer than the limit
 abbrev Part : (Bool → Type 0) → Type 0 → Status → Type 0
 Part Answers Past Done = Answers false
 Part Answers Past Faults = Answers true
@@ -95,7 +95,7 @@ module _ (A : List ℕ → AnswerText → Type 0) (one : (input : List ℕ) (a b
       (x.output ∙ (ap (λ r. before ++ r.text) same ∙ sym y.output), x.faulty ∙ (ap (λ r. status_of r.fault) same ∙ sym y.faulty))
 
   module _ (limit : ℕ) (left left' before after : List ℕ) where
-    -- an input has no fault and one
+    -- one input is not answered both with a fault and without one
     not_both : AnswersAll A limit (Some left) (Some left') (Some before) (Some after) false → AnswersAll A limit (Some left) (Some left') (Some before) (Some after) true → ⊥
     not_both x y =
         let input : x.input ≡ y.input = taken_one left left' x.input y.input x.taken y.taken in
@@ -121,7 +121,7 @@ module _ (A : List ℕ → AnswerText → Type 0) (one : (input : List ℕ) (a b
     run_part NoMemory x = tt
     run_part TooLong x = x
 
-    -- a whole input has no fault and one
+    -- one whole input is not answered both with a fault and without one
     whole_not_both : AnswersWhole A limit (Some left) (Some left') (Some before) (Some after) false → AnswersWhole A limit (Some left) (Some left') (Some before) (Some after) true → ⊥
     whole_not_both x y =
         let input : x.input ≡ y.input = taken_one left left' x.input y.input x.taken y.taken in

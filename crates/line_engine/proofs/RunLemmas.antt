@@ -31,7 +31,7 @@ last_bytes : (rest : List ℕ) → bytes_in (last_line rest) ≡ length rest
 last_bytes [] = refl
 last_bytes (b ∷ rest) = omega arith
 
--- a prefix's ended lines are no more than the lines of the whole, and have no more bytes
+-- the ended lines of a prefix are at most as many as the lines of the whole, and have at most as many bytes
 module _ (per_byte extra steps steps' : ℕ) where
   spent : (some all few many : ℕ) → some ≤ all → few ≤ many → steps' ≤ steps + per_byte * some + extra * few → steps' ≤ steps + per_byte * all + extra * many
   spent some all few many a b cost =
@@ -52,7 +52,7 @@ module _ (per_byte extra steps steps' : ℕ) where
       spent (bytes_in (ended_lines prefix)) (length bytes) (length (ended_lines prefix)) (length (lines bytes))
       (omega (arith, bytes_of_lines prefix, length-take n bytes)) (omega (arith, count, length-append (ended_lines bytes) (last_line (unended bytes)))) cost
 
--- what was written where writing was cut short
+-- the output if writing was cut short
 pub prefix_of : (A : List ℕ → AnswerText → Type 0) (per_byte extra : ℕ) (ls : List (List ℕ)) (written written' : Option (List ℕ)) (fault : Bool) (steps steps' : ℕ) → AnswersUntilFailure A per_byte extra ls (state [] written fault steps) written' steps' → AnswersPrefix A ls written written'
 prefix_of A per_byte extra ls written written' fault steps steps' broken = record {
   some = broken.some;
@@ -63,7 +63,7 @@ prefix_of A per_byte extra ls written written' fault steps steps' broken = recor
   output = broken.part;
 }
 
--- what was written where nothing is gathered
+-- the output if nothing is gathered
 pub written_out : (old new : Option (List ℕ)) (more : List ℕ) → (gone : List ℕ) → more ≡ gone ++ [] → Appends old new gone → Appends old new more
 written_out old new more gone split appends = subst (Appends old new) (sym (split ∙ append-nil gone)) appends
 
@@ -172,7 +172,7 @@ module _ (A : List ℕ → AnswerText → Type 0) (per_byte extra : ℕ) where
   last_run limit left left' before between after bytes fault steps steps' steps'' write write' NoMemory taken at_end within answered ends = absurd ends
   last_run limit left left' before between after bytes fault steps steps' steps'' write write' TooLong taken at_end within answered ends = absurd ends
 
-  -- what the last line took
+  -- the cost of the last line
   last_cost : (before between after : Option (List ℕ)) (bytes : List ℕ) (fault : Bool) (steps steps' steps'' write write' : ℕ) (status : Status)
       → Answered A per_byte extra (ended_lines bytes) (state [] before false steps) (state [] between fault steps')
       → EndsLines A per_byte extra (last_line (unended bytes)) (state [] between fault steps') after steps'' write write' status → steps'' ≤ steps + per_byte * bytes_in (lines bytes) + extra * length (lines bytes)
@@ -199,7 +199,7 @@ module _ (A : List ℕ → AnswerText → Type 0) (per_byte extra : ℕ) where
     cost = spent_lines per_byte extra steps steps'' bytes (last_cost before between after bytes fault steps steps' steps'' write write' status answered ends);
   }
 
-  -- which counts rose by the end
+  -- the counts of failures that rose by the end
   pub last_causes : (ls : List (List ℕ)) (s : State) (after : Option (List ℕ)) (steps read read' write write' write'' : ℕ) (status : Status) → read' ≡ read → write' ≡ write
       → EndsLines A per_byte extra ls s after steps write' write'' status → HasFailures read read' write write'' status
   last_causes ls s after steps read read' write write' write'' Done same_source same_sink ends = record { source = same_source; sink = ends.1 ∙ same_sink }

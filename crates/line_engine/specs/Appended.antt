@@ -4,8 +4,8 @@ use Rattle.std.specs.declared.option.Option.{Option}
 use Rattle.std.specs.Io.KnownBytes.{Appends}
 use Rattle.line_engine.specs.AnswerText.{AnswerText}
 
--- the text of the answer to a line, of at most `most` bytes, was appended to what was gathered before; the flag is the
--- answer's
+-- the answer to `line`, of at most `most` bytes, was appended to the bytes gathered before; `fault` says whether it
+-- reports a fault
 pub record AppendsAnswer (A : List ℕ → AnswerText → Type 0)
     (most : ℕ) (line before after : List ℕ) (fault : Bool) : Type 0 where
   pub text : List ℕ
@@ -13,7 +13,7 @@ pub record AppendsAnswer (A : List ℕ → AnswerText → Type 0)
   pub appended : after ≡ before ++ text
   pub short : length text ≤ most
 
--- known bytes grew by a prefix of bs
+-- the known bytes grew by a prefix of `bs`
 pub record AppendsPrefix (old new : Option (List ℕ)) (bs : List ℕ) : Type 0 where
   pub prefix : List ℕ
   pub rest : List ℕ

@@ -1,4 +1,4 @@
--- How the reading of a whole input ends.
+-- How reading a whole input ends.
 use Rattle.std.specs.Prelude.{◌≡◌, ◌+◌, ◌≤◌, ℕ, List, length}
 use Rattle.std.specs.declared.option.Option.{Option}
 use Rattle.std.specs.Io.KnownBytes.{Consumes, IsAtEnd}
@@ -6,8 +6,8 @@ use Rattle.line_engine.specs.Failures.{HasFailed}
 use Rattle.line_engine.specs.declared.whole.Filled.{Filled}
 use Rattle.line_engine.specs.declared.whole.Filled.TheVariants.{End, TooLong, ReadFault}
 
--- these bytes were taken from the source, and so the reading ended: at the end of an input within the limit, one byte
--- past the limit, or with a read that failed
+-- these bytes were taken from the source, and reading ended as the last argument says: at the end of an input within
+-- the limit, one byte past the limit, or with a failed read
 abbrev pub HasFilled : ℕ → Option (List ℕ) → Option (List ℕ) → ℕ → ℕ → List ℕ → Filled → Type 0
 HasFilled limit left left' failures failures' bytes End = Consumes left left' bytes × IsAtEnd left'
     × (length bytes ≤ limit) × (failures' ≡ failures)

@@ -1,2 +1,2 @@
--- Contracts of private functions: how far answering has come, between two chunks of an input.
+-- Contracts of private functions: progress between two chunks of an input.
 pub mod Progress

@@ -1,4 +1,4 @@
--- What is seen of a source and a sink in memory.
+-- The visible state of a source and a sink in memory.
 use Rattle.std.specs.Prelude.{◌≡◌, ℕ, ◌+◌, ◌-◌, ◌^◌, min, List, length, take, drop}
 use Rattle.line_engine.specs.Asked.{Asked}
 use Rattle.line_engine.specs.declared.memory.MemorySource.{MemorySource}
@@ -8,7 +8,7 @@ use Rattle.line_engine.specs.declared.memory.MemorySink.{MemorySink}
 abbrev pub bytes_left : MemorySource → List ℕ
 bytes_left source = drop source.at source.bytes.items
 
--- what its reads have asked for
+-- what its reads have requested
 abbrev pub asked_of : MemorySource → Asked
 asked_of source = record { given = source.at; furthest = source.furthest; longest = source.longest }
 
@@ -16,7 +16,7 @@ asked_of source = record { given = source.at; furthest = source.furthest; longes
 abbrev pub bytes_written : MemorySink → List ℕ
 bytes_written sink = take sink.len sink.room.items
 
--- how many bytes still have room
+-- how many bytes of room are left
 abbrev pub room_left : MemorySink → ℕ
 room_left sink = length sink.room.items - sink.len
 
@@ -24,12 +24,12 @@ room_left sink = length sink.room.items - sink.len
 abbrev pub next_count : ℕ → ℕ
 next_count n = min (n + 1) (2 ^ 64 - 1)
 
--- a source fails and moves as much as before
+-- the source fails and moves bytes by the same rules as before
 pub record KeepsSourceRules (old new : MemorySource) : Type 0 where
   pub failing : new.failing.items ≡ old.failing.items
   pub most : new.most ≡ old.most
 
--- a sink fails and moves as much as before, and has the room that it was given
+-- the sink fails and moves bytes by the same rules as before, and has as much room in total
 pub record KeepsSinkRules (old new : MemorySink) : Type 0 where
   pub failing : new.failing.items ≡ old.failing.items
   pub most : new.most ≡ old.most

@@ -1,4 +1,4 @@
--- The output of an input: the answers to its lines, each followed by a newline.
+-- The output for an input: the answers to its lines, each followed by a newline.
 use Rattle.std.specs.Prelude.{◌≡◌, ℕ, List, [], ◌∷◌, ◌++◌, Bool, true, false, flat_map}
 use Rattle.std.specs.declared.option.Option.{Option}
 use Rattle.std.specs.Io.KnownBytes.{Appends}
@@ -9,35 +9,35 @@ use Rattle.line_engine.specs.Lines.{lines}
 use Rattle.line_engine.specs.declared.status.Status.{Status}
 use Rattle.line_engine.specs.declared.status.Status.TheVariants.{Done, Faults}
 
--- by this meaning of an answer, these replies answer these lines, one each and in order
+-- these replies answer these lines, one each and in order, by the meaning `A` of an answer
 abbrev pub AreAnswers : (List ℕ → AnswerText → Type 0) → List (List ℕ) → List AnswerText → Type 0
 AreAnswers A [] [] = Unit {0}
 AreAnswers A [] (reply ∷ replies) = ⊥
 AreAnswers A (line ∷ lines) [] = ⊥
 AreAnswers A (line ∷ lines) (reply ∷ replies) = A line reply × AreAnswers A lines replies
 
--- what is written for a reply
+-- the bytes written for a reply
 abbrev pub reply_line : AnswerText → List ℕ
 reply_line reply = reply.text ++ 10 ∷ []
 
--- what is written for these replies
+-- the bytes written for these replies
 abbrev pub written_of : List AnswerText → List ℕ
 written_of replies = flat_map reply_line replies
 
--- whether a reply names a fault
+-- whether the reply reports a fault
 abbrev pub is_fault : AnswerText → Bool
 is_fault reply = reply.fault
 
--- whether one of these replies names a fault
+-- whether one of these replies reports a fault
 abbrev pub any_fault : List AnswerText → Bool
 any_fault replies = list_any is_fault replies
 
--- a run that answered all lines ends so
+-- the status of a run that answered all lines, by whether an answer was a fault
 abbrev pub status_of : Bool → Status
 status_of true = Faults
 status_of false = Done
 
--- the whole output of an input was written, and the status says whether an answer is a fault
+-- the whole output for the input was written, and the status says whether an answer is a fault
 pub record WritesOutput (A : List ℕ → AnswerText → Type 0)
     (input : List ℕ) (written written' : Option (List ℕ)) (status : Status) : Type 0 where
   pub replies : List AnswerText

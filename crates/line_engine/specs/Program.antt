@@ -1,12 +1,12 @@
--- What a program leaves, and the code with which its process ends.
+-- What a program leaves, and the exit code of its process.
 use Rattle.std.specs.Prelude.{◌≡◌, ℕ, List}
 use Rattle.std.specs.declared.option.Option.{Option}
 use Rattle.line_engine.specs.Asked.{Asked}
 use Rattle.line_engine.specs.Status.{code_of}
 use Rattle.line_engine.specs.declared.status.Status.{Status}
 
--- what is seen of a source, a sink and a counter of steps at one moment: the bytes that are left and what was asked
--- for, the bytes that were written, how often reads and writes failed, and how many steps were taken
+-- what contracts see of a source, a sink and a counter of steps at one moment: the bytes left and those requested, the
+-- bytes written, how often reads and writes failed, and the steps taken
 pub record Outside : Type 0 where
   pub left : Option (List ℕ)
   pub asked : Option Asked
@@ -25,7 +25,7 @@ outside left asked read_failures written write_failures steps = record {
   steps = steps;
 }
 
--- nothing was read, or asked for
+-- nothing was read or requested
 pub record ReadsNothing (before after : Outside) : Type 0 where
   pub left : after.left ≡ before.left
   pub asked : after.asked ≡ before.asked
@@ -36,7 +36,7 @@ pub record WritesNothing (before after : Outside) : Type 0 where
   pub written : after.written ≡ before.written
   pub failures : after.write_failures ≡ before.write_failures
 
--- the code is that of a status by which this holds
+-- `code` is the exit code of a status that satisfies `P`
 pub record EndsAs (P : Status → Type 0) (code : ℕ) : Type 0 where
   pub status : Status
   pub holds : P status

@@ -1,4 +1,4 @@
--- What a run that reads lines leaves.
+-- What a run over lines leaves.
 use Rattle.std.specs.Prelude.{◌≡◌, ℕ, ◌+◌, ◌*◌, ◌≤◌, ◌⊎◌, Bool, true, false, List, ◌++◌, length, take}
 use Rattle.std.specs.declared.option.Option.{Option}
 use Rattle.std.specs.Io.KnownBytes.{Appends, Consumes, IsAtEnd}
@@ -12,7 +12,8 @@ use Rattle.line_engine.specs.declared.status.Status.{Status}
 use Rattle.line_engine.specs.declared.status.Status.TheVariants.{Done, Faults, Usage, ReadFault, WriteFault, NoMemory}
 use Rattle.line_engine.specs.declared.status.Status.TheVariants.{TooLong}
 
--- an input within the limit was read to its end, its whole output written, and an answer is a fault or none is
+-- an input within the limit was read to its end, its whole output was written, and `fault` says whether an answer is a
+-- fault
 pub record AnswersAll (A : List ℕ → AnswerText → Type 0)
     (limit : ℕ) (left left' written written' : Option (List ℕ)) (fault : Bool) : Type 0 where
   pub input : List ℕ
@@ -24,7 +25,7 @@ pub record AnswersAll (A : List ℕ → AnswerText → Type 0)
   pub output : Appends written written' (written_of replies)
   pub faulty : any_fault replies ≡ fault
 
--- the answers of the lines that ended in the bytes taken were written
+-- the answers to the lines that ended in the bytes taken were written
 pub record AnswersEnded (A : List ℕ → AnswerText → Type 0)
     (limit : ℕ) (left left' written written' : Option (List ℕ)) : Type 0 where
   pub bytes : List ℕ
@@ -34,7 +35,7 @@ pub record AnswersEnded (A : List ℕ → AnswerText → Type 0)
   pub answers : AreAnswers A (ended_lines bytes) replies
   pub output : Appends written written' (written_of replies)
 
--- one byte past the limit was taken, and the answers of the lines that ended before it were written
+-- one byte past the limit was taken, and the answers to the lines that ended before it were written
 pub record AnswersLimit (A : List ℕ → AnswerText → Type 0)
     (limit : ℕ) (left left' written written' : Option (List ℕ)) : Type 0 where
   pub bytes : List ℕ
@@ -54,7 +55,7 @@ pub record AnswersPrefix (A : List ℕ → AnswerText → Type 0)
   pub answers : AreAnswers A some replies
   pub output : AppendsPrefix written written' (written_of replies)
 
--- writing was cut short among the lines that ended in the bytes taken, or at the end of the input among all its lines
+-- writing stopped among the lines that ended in the bytes taken or, at the end of the input, among all its lines
 pub record AnswersUntilWriteFault (A : List ℕ → AnswerText → Type 0)
     (limit : ℕ) (left left' written written' : Option (List ℕ)) : Type 0 where
   pub bytes : List ℕ
@@ -62,7 +63,7 @@ pub record AnswersUntilWriteFault (A : List ℕ → AnswerText → Type 0)
   pub cut_short : AnswersPrefix A (ended_lines (take limit bytes)) written written'
       ⊎ (IsAtEnd left' × (length bytes ≤ limit) × AnswersPrefix A (lines bytes) written written')
 
--- what a run that ended so has taken and written
+-- what a run with this status has taken and written
 abbrev pub HasRun : (List ℕ → AnswerText → Type 0) → ℕ → Option (List ℕ) → Option (List ℕ) → Option (List ℕ)
     → Option (List ℕ) → Status → Type 0
 HasRun A limit left left' written written' Done = AnswersAll A limit left left' written written' false
@@ -73,12 +74,12 @@ HasRun A limit left left' written written' WriteFault = AnswersUntilWriteFault A
 HasRun A limit left left' written written' NoMemory = (left' ≡ left) × (written' ≡ written)
 HasRun A limit left left' written written' TooLong = AnswersLimit A limit left left' written written'
 
--- both counts of failures are as they were
+-- neither count of failures changed
 pub record NoFailure (read read' write write' : ℕ) : Type 0 where
   pub source : read' ≡ read
   pub sink : write' ≡ write
 
--- which counts of failures of the source and the sink rose by the time a run ended so
+-- which counts of failures, of the source and of the sink, rose in a run with this status
 abbrev pub HasFailures : ℕ → ℕ → ℕ → ℕ → Status → Type 0
 HasFailures read read' write write' Done = NoFailure read read' write write'
 HasFailures read read' write write' Faults = NoFailure read read' write write'
@@ -88,15 +89,15 @@ HasFailures read read' write write' WriteFault = (read' ≡ read) × HasFailed w
 HasFailures read read' write write' NoMemory = NoFailure read read' write write'
 HasFailures read read' write write' TooLong = NoFailure read read' write write'
 
--- at most one byte past the limit was taken, and at most per_byte steps for each byte taken and extra for each line of
--- them
+-- at most one byte past the limit was taken, in at most `per_byte` steps for each byte taken and `extra` for each line
+-- of those bytes
 pub record Spends (limit per_byte extra : ℕ) (left left' : Option (List ℕ)) (steps steps' : ℕ) : Type 0 where
   pub bytes : List ℕ
   pub taken : Consumes left left' bytes
   pub bound : length bytes ≤ limit + 1
   pub cost : steps' ≤ steps + per_byte * length bytes + extra * length (lines bytes)
 
--- the text was written whole and the call ended as `ending`; or a write failed, and a prefix of the text was written
+-- the whole text was written and the call ended as `ending`, or a write failed after a prefix of the text
 abbrev pub WritesText : List ℕ → Status → Option (List ℕ) → Option (List ℕ) → ℕ → ℕ → Status → Type 0
 WritesText text ending written written' failures failures' status = ((status ≡ ending) × Appends written written' text
     × (failures' ≡ failures))

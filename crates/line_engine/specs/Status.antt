@@ -1,10 +1,10 @@
--- The codes of the statuses.
+-- The exit codes of the statuses.
 use Rattle.std.specs.Prelude.{ℕ}
 use Rattle.line_engine.specs.declared.status.Status.{Status}
 use Rattle.line_engine.specs.declared.status.Status.TheVariants.{Done, Faults, Usage, ReadFault, WriteFault, NoMemory}
 use Rattle.line_engine.specs.declared.status.Status.TheVariants.{TooLong}
 
--- the status with which the program ends
+-- the exit code of the program
 abbrev pub code_of : Status → ℕ
 code_of Done = 0
 code_of Faults = 1

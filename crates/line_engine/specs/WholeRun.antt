@@ -10,7 +10,8 @@ use Rattle.line_engine.specs.declared.status.Status.{Status}
 use Rattle.line_engine.specs.declared.status.Status.TheVariants.{Done, Faults, Usage, ReadFault, WriteFault, NoMemory}
 use Rattle.line_engine.specs.declared.status.Status.TheVariants.{TooLong}
 
--- the answer to an input within the limit, which was read to its end, was written whole, and it holds a fault or none
+-- an input within the limit was read to its end, its answer was written whole, and `fault` says whether it reports a
+-- fault
 pub record AnswersWhole (A : List ℕ → AnswerText → Type 0)
     (limit : ℕ) (left left' written written' : Option (List ℕ)) (fault : Bool) : Type 0 where
   pub input : List ℕ
@@ -22,7 +23,7 @@ pub record AnswersWhole (A : List ℕ → AnswerText → Type 0)
   pub output : Appends written written' text.text
   pub faulty : text.fault ≡ fault
 
--- a prefix of the answer to an input within the limit, which was read to its end, was written
+-- an input within the limit was read to its end, and a prefix of its answer was written
 pub record AnswersWholeInPart (A : List ℕ → AnswerText → Type 0)
     (limit : ℕ) (left left' written written' : Option (List ℕ)) : Type 0 where
   pub input : List ℕ
@@ -39,13 +40,13 @@ pub record TakesSome (limit : ℕ) (left left' : Option (List ℕ)) : Type 0 whe
   pub taken : Consumes left left' bytes
   pub within : length bytes ≤ limit
 
--- the byte past the limit was taken, and none after it
+-- one byte past the limit was taken, and none after it
 pub record TakesPast (limit : ℕ) (left left' : Option (List ℕ)) : Type 0 where
   pub bytes : List ℕ
   pub taken : Consumes left left' bytes
   pub past : length bytes ≡ limit + 1
 
--- what a run that ended so has taken and written
+-- what a run with this status has taken and written
 abbrev pub HasWholeRun : (List ℕ → AnswerText → Type 0) → ℕ → Option (List ℕ) → Option (List ℕ) → Option (List ℕ)
     → Option (List ℕ) → Status → Type 0
 HasWholeRun A limit left left' written written' Done = AnswersWhole A limit left left' written written' false
@@ -56,11 +57,11 @@ HasWholeRun A limit left left' written written' WriteFault = AnswersWholeInPart 
 HasWholeRun A limit left left' written written' NoMemory = TakesWithin limit left left' × (written' ≡ written)
 HasWholeRun A limit left left' written written' TooLong = TakesPast limit left left' × (written' ≡ written)
 
--- a run that ended so ended before it wrote
+-- a run with this status ended before it wrote
 abbrev pub EndsBeforeWriting : Status → Type 0
 EndsBeforeWriting status = (status ≡ ReadFault) ⊎ ((status ≡ NoMemory) ⊎ (status ≡ TooLong))
 
--- the answer to this input was written whole, and the status says whether it holds a fault
+-- the answer to the input was written whole, and the status says whether it reports a fault
 pub record WritesAnswer (A : List ℕ → AnswerText → Type 0)
     (input : List ℕ) (written written' : Option (List ℕ)) (status : Status) : Type 0 where
   pub text : AnswerText

@@ -1,11 +1,11 @@
-//! What a rule answers to a line.
+//! The answer of a rule to a line.
 
 ghost use Rattle.std.specs.Prelude.{◌≡◌, ◌≤◌, length};
 
 use arrayvec::ArrayVec;
 use std::marker::Model;
 
-/// How many bytes an answer has at most.
+/// The longest answer, in bytes.
 pub const MAX_ANSWER: usize = 192;
 
 /// The answer to a line: at most 192 bytes, and whether they name a fault.
@@ -24,7 +24,7 @@ impl Model for Answer {
 }
 
 impl Answer {
-    /// The answer of these bytes, at most 192, with whether they name a fault.
+    /// Makes an answer of at most 192 bytes, with whether they name a fault.
     pub fn of(bytes: &[u8], is_fault: bool) -> Answer
         requires { length bytes.now ≤ 192 }
         ensures text { result.text ≡ bytes.now }
@@ -38,7 +38,7 @@ impl Answer {
         }
     }
 
-    /// The bytes, without a newline: at most 192.
+    /// Returns the bytes, at most 192, without a newline.
     pub fn as_bytes(&self) -> &[u8]
         ensures bytes { result.now ≡ self.now.text }
         ensures short { length result.now ≤ 192 }

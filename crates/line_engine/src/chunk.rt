@@ -1,4 +1,4 @@
-//! One read of an input: how much is asked for, and into which part of a chunk.
+//! One read of an input: how many bytes it requests, and into which part of a chunk.
 
 ghost use Rattle.std.specs.Prelude.{◌≡◌, ◌≤◌, ◌<◌, ◌+◌, ◌^◌, length, take, IfOk, OnErr};
 ghost use Rattle.std.specs.Io.KnownBytes.{Consumes, IsAtEnd, Keeps};
@@ -7,16 +7,16 @@ ghost use Rattle.line_engine.specs.Failures.{FailsOnlyCounted};
 
 use crate::{Failed, Source};
 
-/// The greatest limit, in bytes, of an input that is read whole, and of what a program's arguments name.
+/// The greatest limit, in bytes, of an input that is read whole, and in a program's arguments.
 pub const MAX_LIMIT: u64 = 4_294_967_296;
 
-/// The limit, in bytes, of lines that have none: 2^62, more than any input has.
+/// The limit, in bytes, of lines without one: 2^62, more than any input has.
 pub const NO_LIMIT: u64 = 4_611_686_018_427_387_904;
 
-/// How many bytes are read at a time at most.
+/// The most bytes that one read requests.
 pub const CHUNK: usize = 4096;
 
-/// How many bytes are asked for next, with this many of the limit taken.
+/// Returns how many bytes to request next, after `taken` bytes of the limit.
 pub(crate) fn next_room(limit: u64, taken: u64) -> usize
     requires limit { limit ≤ 2 ^ 62 }
     requires taken { taken ≤ limit }
@@ -27,7 +27,7 @@ pub(crate) fn next_room(limit: u64, taken: u64) -> usize
     (limit + 1 - taken).min(CHUNK as u64) as usize
 }
 
-/// Reads the next bytes into the start of a chunk, at most this many.
+/// Reads at most `most` bytes into the start of a chunk.
 pub(crate) fn read_prefix<S: Source>(
     source: &mut S,
     chunk: &mut [u8],

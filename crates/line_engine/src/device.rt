@@ -9,27 +9,27 @@ ghost use Rattle.line_engine.specs.Failures.{FailsOnlyCounted};
 
 use thiserror::Error;
 
-/// A device failed: the one refusal of a source and of a sink.
+/// A read or a write failed: the only error of a source and of a sink.
 #[derive(Clone, Copy, Debug, Error, PartialEq, Eq)]
 #[error("device failed")]
 pub struct Failed;
 
 /// Where bytes come from.
 pub trait Source {
-    /// The bytes that are left, where the source exposes them.
+    /// The bytes that are left, if the source exposes them.
     ghost left: { Self → Option (List ℕ) };
 
-    /// How often a read has failed; it stays at the last value of u64.
+    /// How many reads have failed; it stays at `u64::MAX`.
     ghost failures: { Self → ℕ };
 
-    /// What its reads have asked for, where the source exposes it: how many bytes they gave, the furthest byte that one
-    /// asked for, and the longest buffer of one.
+    /// What its reads have requested, if the source exposes it: how many bytes they gave, the furthest byte requested,
+    /// and the longest buffer.
     ghost asked: { Self → Option Asked };
 
-    /// Puts the next bytes at the start of the buffer and answers how many bytes they are. On a buffer that isn't
-    /// empty, 0 means the end of the input and only that; on an empty buffer the call changes nothing. `Failed` comes
-    /// only where the count of failures rose, or is at its last value, and then no byte moved. Each call is added to
-    /// what was asked for, with the buffer's length and the count of bytes that it gave.
+    /// Reads the next bytes into the start of the buffer and returns their count. For a buffer that is not empty, 0
+    /// means only the end of the input; for an empty buffer the call changes nothing. `Failed` is returned only if the
+    /// count of failures rose or is `u64::MAX`, and then no byte moved. Each call adds the buffer's length and the
+    /// count of bytes read to what was requested.
     fn read(&mut self, buf: &mut [u8]) -> Result<usize, Failed>
         ensures bound { ReadsAtMost result buf.new }
         ensures bytes { ReadConsumes (left self.old) (left self.new) result buf.new }
@@ -40,14 +40,14 @@ pub trait Source {
 
 /// Where bytes go.
 pub trait Sink {
-    /// The bytes that were written, where the sink exposes them.
+    /// The bytes written, if the sink exposes them.
     ghost written: { Self → Option (List ℕ) };
 
-    /// How often a write has failed; it stays at the last value of u64.
+    /// How many writes have failed; it stays at `u64::MAX`.
     ghost failures: { Self → ℕ };
 
-    /// Takes a prefix of the piece, at least one byte of a piece that isn't empty, and answers how many bytes it took.
-    /// `Failed` comes only where the count of failures rose, or is at its last value, and then no byte moved.
+    /// Writes a prefix of the piece, at least one byte unless the piece is empty, and returns its length. `Failed` is
+    /// returned only if the count of failures rose or is `u64::MAX`, and then no byte moved.
     fn write(&mut self, piece: &[u8]) -> Result<usize, Failed>
         ensures bound { WritesAtMost result piece.now }
         ensures bytes { WriteAppends (written self.old) (written self.new) result piece.now }

@@ -1,4 +1,4 @@
-//! The line engine: lines in, answers out, whatever the rule that answers.
+//! The line engine: lines in, answers out, by any rule.
 
 ghost use Rattle.std.specs.Prelude.{◌≡◌, ◌≤◌, ◌<◌, ◌^◌, ◌⊎◌, List, ℕ, Some, [], length, false};
 ghost use Rattle.line_engine.specs.Asked.{AskedWithin};
@@ -19,7 +19,7 @@ use fixed_steps::Steps;
 use std::alloc::Global;
 use std::sync::ledger::Ledger;
 
-/// Answers the rest of the input, and says how the run ended.
+/// Answers the rest of the input. Returns how the run ended.
 fn end_lines<R: LineRule<L>, K: Sink, L: Ledger>(
     rule: &R,
     mut splitter: LineSplitter,
@@ -45,7 +45,7 @@ fn end_lines<R: LineRule<L>, K: Sink, L: Ledger>(
     }
 }
 
-/// Reads lines up to the limit, and has each answered.
+/// Reads lines up to the limit and answers each.
 fn answer_lines<R: LineRule<L>, S: Source, K: Sink, L: Ledger>(
     limit: u64,
     rule: &R,
@@ -85,13 +85,13 @@ fn answer_lines<R: LineRule<L>, S: Source, K: Sink, L: Ledger>(
     Status::TooLong
 }
 
-/// Has each line of a source answered by a rule, and writes each answer and a newline to a sink.
+/// Answers each line of a source by a rule, and writes each answer and a newline to a sink.
 ///
-/// It takes memory for one line buffer of 1,048,577 bytes, and answers `NoMemory` where that fails; afterwards it takes
-/// none. Each read asks for at most 4,096 bytes, and for at most limit + 1 bytes less those already taken. The answers
-/// of the lines that ended in a chunk are written before the next is read. A line ends at a newline byte, which isn't
-/// part of it; the rule is given its first 1,048,577 bytes. What follows the last newline is a line where it isn't
-/// empty.
+/// It allocates one line buffer of 1,048,577 bytes, and returns `NoMemory` if that fails; afterwards it allocates
+/// nothing. Each read requests at most 4,096 bytes, and at most limit + 1 bytes less those already taken. The answers
+/// to the lines that ended in a chunk are written before the next chunk is read. A line ends at a newline byte, which
+/// is not part of it; the rule gets its first 1,048,577 bytes. The bytes after the last newline are a line unless they
+/// are empty.
 ///
 /// The limit is in bytes, from 1 to 2^62.
 pub fn run_lines<R: LineRule<L>, S: Source, K: Sink, L: Ledger>(
@@ -105,7 +105,7 @@ pub fn run_lines<R: LineRule<L>, S: Source, K: Sink, L: Ledger>(
     requires some { 1 ≤ limit }
     requires most { limit ≤ 2 ^ 62 }
 
-    // What was taken and what was written, by status.
+    // The bytes read and written, by status.
     ensures run { HasRun (R.Answers rule.now) limit (S.left source.old) (S.left source.new) (K.written sink.old)
         (K.written sink.new) result }
 
@@ -113,8 +113,8 @@ pub fn run_lines<R: LineRule<L>, S: Source, K: Sink, L: Ledger>(
     ensures failures { HasFailures (S.failures source.old) (S.failures source.new) (K.failures sink.old)
         (K.failures sink.new) result }
 
-    // With no count risen, an input within the limit is answered whole, and the status says whether an answer is a
-    // fault; or there was no memory.
+    // If no count rose, an input within the limit is answered whole, and the status says whether an answer is a fault;
+    // or there was no memory.
     ensures output { (input : List ℕ) → S.left source.old ≡ Some input → length input ≤ limit
         → ¬ HasFailed (S.failures source.old) (S.failures source.new)
         → ¬ HasFailed (K.failures sink.old) (K.failures sink.new)
@@ -127,20 +127,19 @@ pub fn run_lines<R: LineRule<L>, S: Source, K: Sink, L: Ledger>(
         → ¬ HasFailed (K.failures sink.old) (K.failures sink.new)
         → (result ≡ Status.NoMemory) ⊎ (result ≡ Status.TooLong) }
 
-    // Where a write failed, a prefix of the whole output was written.
+    // If a write failed, a prefix of the whole output was written.
     ensures prefix_on_write_fault { result ≡ Status.WriteFault → (input : List ℕ) (replies : List AnswerText)
         → S.left source.old ≡ Some input
         → AreAnswers (R.Answers rule.now) (lines input) replies
         → AppendsPrefix (K.written sink.old) (K.written sink.new) (written_of replies) }
 
-    // How many bytes were taken, and how many steps.
+    // How many bytes were read, and how many steps that took.
     ensures cost { Spends limit R.PER_BYTE R.EXTRA (S.left source.old) (S.left source.new) steps.old steps.new }
 
-    // What the source was asked for: no read asked for more than limit + 1 bytes less those taken, or for more than
-    // 4,096.
+    // No read requested more than limit + 1 bytes less those taken, or more than 4,096.
     ensures asked { AskedWithin limit (S.asked source.old) (S.asked source.new) }
 
-    // Nothing was read or written.
+    // Without memory, nothing was read or written.
     ensures memory { result ≡ Status.NoMemory
         → (source.new ≡ source.old) × (sink.new ≡ sink.old) × (steps.new ≡ steps.old) }
 {

@@ -19,18 +19,18 @@ ghost use Rattle.line_engine.specs.RunLaws.{
 use crate::{LineRule, WholeRule};
 use std::sync::ledger::Ledger;
 
-/// The ended lines, each followed by a newline, and what follows the last newline are the input again.
+/// The ended lines, each followed by a newline, and the bytes after the last newline make up the input.
 pub fn lines_are_the_input()
     ensures { LinesAreTheInput }
 {}
 
-/// No line holds a newline.
+/// No line contains a newline.
 pub fn no_line_holds_newline()
     ensures { NoLineHoldsNewline }
 {}
 
-/// An input that is cut in two anywhere has the lines of its two parts, where what is unended in the first begins the
-/// second.
+/// If an input is cut in two anywhere, its lines are those of both parts, with the unended line of the first part
+/// before the second.
 pub fn cut_anywhere()
     ensures { CutAnywhere }
 {}
@@ -40,37 +40,37 @@ pub fn line_comes_first()
     ensures { LineComesFirst }
 {}
 
-/// A line that is not empty is the one line of its own text.
+/// A text without a newline that is not empty is its only line.
 pub fn last_line_needs_no_newline()
     ensures { LastLineNeedsNoNewline }
 {}
 
-/// By a rule over lines an input has at most one output, and its run at most one status.
+/// With a rule over lines, an input has at most one output, and its run at most one status.
 pub fn output_is_the_one<R: LineRule<L>, L: Ledger>(_rule: &R)
     ensures { OutputIsTheOne (R.Answers _rule.now) }
 {}
 
-/// By a rule over whole inputs an input has at most one output, and its run at most one status.
+/// With a rule over whole inputs, an input has at most one output, and its run at most one status.
 pub fn whole_output_is_the_one<R: WholeRule<L>, L: Ledger>(_rule: &R)
     ensures { WholeOutputIsTheOne (R.Answers _rule.now) }
 {}
 
-/// What was taken and the counts of failures say how a run over lines ended, if it found memory.
+/// The bytes read and the counts of failures determine how a run over lines ended, if it found memory.
 pub fn run_end_is_the_one<R: LineRule<L>, L: Ledger>(_rule: &R)
     ensures { RunEndIsTheOne (R.Answers _rule.now) }
 {}
 
-/// What was taken and the counts of failures say how a run over a whole input ended, if it found memory.
+/// The bytes read and the counts of failures determine how a run over a whole input ended, if it found memory.
 pub fn whole_run_end_is_the_one<R: WholeRule<L>, L: Ledger>(_rule: &R)
     ensures { WholeRunEndIsTheOne (R.Answers _rule.now) }
 {}
 
-/// The count of failures says how the writing of a text ended.
+/// The count of failures determines how the writing of a text ended.
 pub fn text_end_is_the_one()
     ensures { TextEndIsTheOne }
 {}
 
-/// What was taken and the count of failures say how the reading of a whole input ended.
+/// The bytes read and the count of failures determine how the reading of a whole input ended.
 pub fn fill_is_the_one()
     ensures { FillIsTheOne }
 {}

@@ -1,10 +1,9 @@
 //! Lines from a source, answered by a rule into a sink.
 //!
-//! `device` says what a source and a sink are, and `memory` has one of each that lives in memory,
-//! over which `memory_run` runs a program for a test. `engine` reads a source
-//! in chunks, cuts it into lines (`splitter`, `line_buffer`), has each line answered (`rule`, `answer`) and writes the
-//! answers (`output`, `writing`). `status` says how a run ended, `text_lines` takes the
-//! lines of a text in memory one by one, and `laws` states laws of the lines of an input.
+//! `device` defines sources and sinks, `memory` has one of each in memory, and `memory_run` runs a program over them
+//! for tests. `engine` reads a source in chunks, cuts it into lines (`splitter`, `line_buffer`), answers each line
+//! (`rule`, `answer`) and writes the answers (`output`, `writing`). `status` says how a run ended, `text_lines` returns
+//! the lines of a text in memory one by one, and `laws` states laws of the lines of an input.
 #![tactic(auto)]
 
 pub mod answer;

@@ -1,4 +1,4 @@
-//! The line that is being read.
+//! The line that is currently read.
 
 ghost use Rattle.std.specs.Prelude.{◌≡◌, ◌≤◌, ◌↔◌, IsTrue, ◌++◌, [], List, ℕ, length, take, IfOk, vec_capacity};
 ghost use Rattle.line_engine.specs.declared.line_buffer.TheConstants.{KEPT};
@@ -6,13 +6,13 @@ ghost use Rattle.line_engine.specs.declared.line_buffer.TheConstants.{KEPT};
 use std::alloc::{AllocError, Global};
 use std::marker::Model;
 
-/// How many bytes a line has at most.
+/// The longest line, in bytes.
 pub const MAX_LINE: usize = 1_048_576;
 
-/// How many bytes of a line are kept: one more than a line may have, so that a longer line is seen to be one.
+/// How many bytes of a line are kept: one more than `MAX_LINE`, so that a longer line is recognized.
 const KEPT: usize = MAX_LINE + 1;
 
-/// The first bytes of a line whose end hasn't come.
+/// The first bytes of a line that has not ended.
 #[derive(Drop)]
 pub struct LineBuffer {
     bytes: Vec<u8>,
@@ -27,7 +27,7 @@ impl Model for LineBuffer {
 }
 
 impl LineBuffer {
-    /// An empty line. It takes all the memory that the line will need.
+    /// An empty line. It allocates all the memory that the line will need.
     pub fn new(alloc: Global) -> Result<LineBuffer, AllocError>
         ensures { IfOk result (λ line. line ≡ []) }
     {
@@ -35,7 +35,7 @@ impl LineBuffer {
         Ok(LineBuffer { bytes })
     }
 
-    /// Goes on with bytes of the line. Those past the first 1,048,577 are passed over.
+    /// Appends bytes of the line. Those after the first 1,048,577 are dropped.
     pub fn append(&mut self, part: &[u8])
         ensures { self.new ≡ take KEPT (self.old ++ part.now) }
     {
@@ -44,7 +44,7 @@ impl LineBuffer {
         self.bytes.extend_from_slice(&part[..kept]).unwrap();
     }
 
-    /// Whether no byte of the line has come.
+    /// Whether the line is empty so far.
     pub fn is_empty(&self) -> bool
         ensures { IsTrue result ↔ (self.now ≡ []) }
     {
@@ -58,7 +58,7 @@ impl LineBuffer {
         self.bytes.clear();
     }
 
-    /// The bytes that are kept.
+    /// Returns the bytes that are kept.
     pub fn as_slice(&self) -> &[u8]
         ensures { result.now ≡ self.now }
     {

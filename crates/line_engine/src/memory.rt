@@ -1,10 +1,10 @@
-//! A source and a sink in memory, which fail at the calls that they were given.
+//! A source and a sink in memory that fail at given calls.
 
 ghost use Rattle.std.specs.Prelude.{◌≡◌, ◌≤◌, ◌<◌, Some, [], length, take, drop};
 
 use crate::{Failed, Sink, Source};
 
-/// A source over bytes in memory. It exposes the bytes that are left and what its reads have asked for.
+/// A source over bytes in memory. It exposes the bytes that are left and what its reads have requested.
 #[derive(Drop)]
 pub struct MemorySource {
     bytes: Vec<u8>,
@@ -24,8 +24,8 @@ impl MemorySource {
     ghost use Rattle.line_engine.specs.Asked.{nothing_asked};
     ghost use Rattle.line_engine.specs.Memory.{asked_of, bytes_left};
 
-    /// A source of these bytes that gives at most `most` at a call, 1 or more, and fails at the calls with these
-    /// numbers. Calls on a buffer that isn't empty are numbered from 0.
+    /// A source of these bytes that returns at most `most` bytes a call, 1 or more, and fails at the calls with the
+    /// numbers in `failing`. Calls with a buffer that is not empty are numbered from 0.
     pub fn new(bytes: Vec<u8>, most: usize, failing: Vec<u64>) -> MemorySource
         requires { 1 ≤ most }
         ensures left { bytes_left result ≡ bytes.items }
@@ -47,15 +47,15 @@ impl MemorySource {
         }
     }
 
-    /// The furthest byte that a read has asked for: the count of bytes given before it and its buffer's length, the
-    /// greatest so far. 0 before the first read.
+    /// Returns the furthest byte that a read has requested: the greatest sum so far of the count of bytes read before
+    /// it and its buffer's length. 0 before the first read.
     pub fn furthest(&self) -> usize
         ensures { result ≡ (asked_of self.now).furthest }
     {
         self.furthest
     }
 
-    /// The length in bytes of the longest buffer of a read so far. 0 before the first read.
+    /// Returns the length in bytes of the longest buffer of a read so far. 0 before the first read.
     pub fn longest(&self) -> usize
         ensures { result ≡ (asked_of self.now).longest }
     {
@@ -77,9 +77,9 @@ impl Source for MemorySource {
 
     ghost asked = { λ s. Some (asked_of s) };
 
-    /// It fails exactly at the calls that it was given. Otherwise it moves as many bytes as the smallest of `most`, the
-    /// buffer's length and the count of bytes left. A call on an empty buffer has no number. Each call, also one that
-    /// fails, is kept in what was asked for.
+    /// Fails exactly at the given calls. Otherwise it moves as many bytes as the smallest of `most`, the buffer's
+    /// length and the count of bytes left. A call with an empty buffer has no number. Each call, even one that fails,
+    /// counts in what was requested.
     fn read(&mut self, buf: &mut [u8]) -> Result<usize, Failed>
         ensures bound { ReadsAtMost result buf.new }
         ensures bytes { ReadConsumes (Some (bytes_left self.old)) (Some (bytes_left self.new)) result buf.new }
@@ -128,8 +128,8 @@ pub struct MemorySink {
 impl MemorySink {
     ghost use Rattle.line_engine.specs.Memory.{bytes_written, room_left};
 
-    /// A sink into this room that takes at most `most` bytes at a call, 1 or more, and fails at the calls with these
-    /// numbers. Calls are numbered from 0. It takes no memory.
+    /// A sink into this room that takes at most `most` bytes a call, 1 or more, and fails at the calls with the numbers
+    /// in `failing`. Calls are numbered from 0. It allocates nothing.
     pub fn new(room: Vec<u8>, most: usize, failing: Vec<u64>) -> MemorySink
         requires { 1 ≤ most }
         ensures written { bytes_written result ≡ [] }
@@ -149,7 +149,7 @@ impl MemorySink {
         }
     }
 
-    /// The bytes that were written, in order: the part of the room that was filled.
+    /// Returns the bytes written, in order: the filled part of the room.
     pub fn written(&self) -> &[u8]
         ensures { result.now ≡ bytes_written self.now }
     {
@@ -168,8 +168,8 @@ impl Sink for MemorySink {
 
     ghost failures = { λ s. s.failures };
 
-    /// It fails exactly at the calls that it was given, and where the piece isn't empty and the room is filled.
-    /// Otherwise it moves as many bytes as the smallest of `most`, the piece's length and the room that is left.
+    /// Fails exactly at the given calls, and if the piece is not empty and the room is full. Otherwise it moves as many
+    /// bytes as the smallest of `most`, the piece's length and the room left.
     fn write(&mut self, piece: &[u8]) -> Result<usize, Failed>
         ensures bound { WritesAtMost result piece.now }
         ensures bytes { WriteAppends (Some (bytes_written self.old)) (Some (bytes_written self.new)) result piece.now }

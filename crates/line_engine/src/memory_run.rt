@@ -1,5 +1,4 @@
-//! Whole runs over a source and a sink in memory, some reads and writes of which fail: what the tests of the crates
-//! above share.
+//! Whole runs over a source and a sink in memory, with failing reads and writes, for the tests of the crates above.
 
 ghost use Rattle.std.specs.Prelude.{◌≡◌};
 
@@ -8,11 +7,11 @@ use fixed_steps::Steps;
 use std::alloc::Global;
 use std::sync::ledger::Ledger;
 
-/// No call of a source or a sink in a test has this number.
+/// A call number that no source or sink of a test reaches.
 pub const NEVER: u64 = 1_000_000;
 
-/// A run: its arguments, its input, how many bytes move at a time, which read and which write fails, what is written
-/// and how the run ends.
+/// A run: its arguments, its input, how many bytes move at a time, which read and which write fails, what it writes and
+/// how it ends.
 #[derive(Drop)]
 pub struct MemoryRun {
     pub args: &'static [&'static str],
@@ -24,9 +23,9 @@ pub struct MemoryRun {
     pub status: Status,
 }
 
-/// What is run by its arguments over a source and a sink in memory.
+/// A program that is run by its arguments over a source and a sink in memory.
 pub trait MemoryProgram {
-    /// Does what the arguments ask for.
+    /// Runs the program by its arguments.
     fn run<L: Ledger>(
         &self,
         alloc: Global,
@@ -38,7 +37,7 @@ pub trait MemoryProgram {
 }
 
 impl MemoryRun {
-    /// A run in which no read and no write fails, and which moves at most 4,096 bytes at a time.
+    /// A run without a failing read or write, which moves at most 4,096 bytes at a time.
     pub fn unfailing(
         args: &'static [&'static str],
         input: &'static str,

@@ -1,4 +1,4 @@
-//! What a program's `main` does with its arguments, over any source and any sink.
+//! Runs a program by its arguments, over any source and any sink.
 
 ghost use Rattle.std.specs.Prelude.{◌≡◌, IfOk, [], ◌∷◌, List, ℕ, String, Err};
 ghost use Rattle.std.specs.String.{string_bytes};
@@ -13,27 +13,27 @@ use fixed_steps::Steps;
 use std::alloc::Global;
 use std::sync::ledger::Ledger;
 
-/// Why a program has no arguments to work by.
+/// Why a program has no arguments to run by.
 #[derive(Clone, Copy, Debug, PartialEq, Eq)]
 pub enum NoArgs {
-    /// There was no memory for them.
+    /// There was no memory for the arguments.
     NoMemory,
-    /// One of them is not UTF-8.
+    /// An argument is not UTF-8.
     NotText,
 }
 
-/// A program that is run by its arguments, the words after its name, over a source and a sink.
+/// A program that is run by its arguments, without its name, over a source and a sink.
 pub trait Program<L: Ledger> {
-    /// The program does not know these arguments.
+    /// Whether the program does not know these arguments.
     ghost IsUsageFault: { Self → List (String Global) → Type 0 };
 
-    /// What is written for such arguments.
+    /// The line that is written for unknown arguments.
     ghost usage_line: { Self → List ℕ };
 
-    /// What a run by these arguments that ended so has done to the outside, which is named before and after it.
+    /// What a run by these arguments with this status did to the outside, which is given before and after it.
     ghost Runs: { Self → List (String Global) → Outside → Outside → Status → Type 0 };
 
-    /// Does what the arguments ask for.
+    /// Runs the program by its arguments.
     fn run<S: Source, K: Sink>(
         &self,
         alloc: Global,
@@ -52,15 +52,15 @@ pub trait Program<L: Ledger> {
             (K.failures sink.old) (K.failures sink.new) result }
         ensures untouched { IsUsageFault self.now args.now → source.new ≡ source.old };
 
-    /// The program does not know one empty argument.
+    /// The program does not know a single empty argument.
     ghost empty_law: { (program : Self) (word : String Global) → string_bytes word ≡ []
         → IsUsageFault program (word ∷ []) };
 }
 
-/// Runs a program by its arguments, and answers the code with which its process ends.
+/// Runs a program by its arguments, and returns the exit code of its process.
 ///
-/// Where there was no memory for the arguments it ends with the code of `NoMemory`, and nothing is read or written. An
-/// argument that is not text is a usage fault.
+/// If there was no memory for the arguments, the code is that of `NoMemory` and nothing is read or written. An argument
+/// that is not text is a usage fault.
 pub fn run_program<P: Program<L>, S: Source, K: Sink, L: Ledger>(
     program: &P,
     alloc: Global,
@@ -69,7 +69,7 @@ pub fn run_program<P: Program<L>, S: Source, K: Sink, L: Ledger>(
     sink: &mut K,
     steps: &mut Steps<L>,
 ) -> u8
-    // The program ran by its arguments, and the code is that of the status with which it ended.
+    // The program ran by its arguments, and the code is that of its status.
     ensures args { IfOk args
         (λ all. EndsAs (P.Runs program.now all.items
         (outside (S.left source.old) (S.asked source.old) (S.failures source.old) (K.written sink.old)
@@ -77,7 +77,7 @@ pub fn run_program<P: Program<L>, S: Source, K: Sink, L: Ledger>(
         (outside (S.left source.new) (S.asked source.new) (S.failures source.new) (K.written sink.new)
         (K.failures sink.new) steps.new)) result) }
 
-    // For arguments that it doesn't know the usage line is written, and nothing is read.
+    // For unknown arguments the usage line is written, and nothing is read.
     ensures usage { IfOk args (λ all. P.IsUsageFault program.now all.items
         → EndsAs (WritesText (P.usage_line program.now) Status.Usage (K.written sink.old) (K.written sink.new)
         (K.failures sink.old) (K.failures sink.new)) result × (source.new ≡ source.old)) }

@@ -1,4 +1,4 @@
-//! What answers a line.
+//! Rules that answer lines.
 
 ghost use Rattle.std.specs.Prelude.{◌≡◌, ◌+◌, ◌*◌, ◌≤◌, ◌<◌, ◌↔◌, ℕ, List, length, take};
 ghost use Rattle.line_engine.specs.AnswerText.{AnswerText};
@@ -9,15 +9,15 @@ use crate::output::Output;
 use fixed_steps::Steps;
 use std::sync::ledger::Ledger;
 
-/// A rule that answers lines. Its meaning is a relation of a line and its one answer.
+/// A rule that answers lines. Its meaning is a relation between a line and its one answer.
 pub trait LineRule<L: Ledger> {
-    /// How many steps an answer takes at most for each byte of its line.
+    /// The most steps of an answer for each byte of its line.
     const PER_BYTE: u64;
 
-    /// How many steps an answer takes at most beside those for the bytes.
+    /// The most steps of an answer in addition to those for the bytes.
     const EXTRA: u64;
 
-    /// How many bytes an answer has at most, without its newline: at most 8,191.
+    /// The longest answer in bytes, without its newline: at most 8,191.
     const MAX_ANSWER: usize;
 
     ghost PER_BYTE: { ℕ };
@@ -26,23 +26,23 @@ pub trait LineRule<L: Ledger> {
 
     ghost MAX_ANSWER: { ℕ };
 
-    /// Whether a text with its flag is the answer to a line: the rule's meaning.
+    /// The rule's meaning: whether a text with its flag is the answer to a line.
     ghost Answers: { Self → List ℕ → AnswerText → Type 0 };
 
-    /// Appends the answer to a line, without a newline, and answers whether it names a fault.
+    /// Appends the answer to a line, without a newline, and returns whether it names a fault.
     fn answer(&self, line: &[u8], out: &mut Output, steps: &mut Steps<L>) -> bool
         requires room { length out.old + MAX_ANSWER ≤ 8192 }
         ensures answer { AppendsAnswer (Answers self.now) MAX_ANSWER line.now out.old out.new result }
         ensures cost { steps.new ≤ steps.old + PER_BYTE * length line.now + EXTRA };
 
-    /// An answer and its newline fit the buffer.
+    /// An answer and its newline fit into the buffer.
     ghost room_law: { MAX_ANSWER < 8192 };
 
     /// A line has at most one answer.
     ghost one_law: { (rule : Self) (line : List ℕ) (a b : AnswerText) → Answers rule line a → Answers rule line b
         → a ≡ b };
 
-    /// A line that is longer than what is kept of a line is answered like the prefix that is kept.
+    /// A line that is longer than the kept prefix has the same answer as that prefix.
     ghost kept_law: { (rule : Self) (line : List ℕ) (reply : AnswerText) → kept_length < length line
         → (Answers rule (take kept_length line) reply ↔ Answers rule line reply) };
 }

@@ -1,4 +1,4 @@
-//! What is kept between two chunks of an input, and how its lines are answered.
+//! Cuts the chunks of an input into lines and answers them. A line may span chunks.
 
 ghost use Rattle.std.specs.Prelude.{
   ◌≡◌,
@@ -44,7 +44,7 @@ use fixed_steps::Steps;
 use memchr::memchr;
 use std::sync::ledger::Ledger;
 
-/// Writes what was gathered.
+/// Writes the gathered bytes.
 #[inline]
 fn flush<K: Sink>(out: &mut Output, sink: &mut K) -> Result<(), Failed>
     ensures none { OnOk result (out.new ≡ []) }
@@ -57,7 +57,7 @@ fn flush<K: Sink>(out: &mut Output, sink: &mut K) -> Result<(), Failed>
     Ok(())
 }
 
-/// Makes room for an answer of `most` bytes and a newline: writes what was gathered where there is none.
+/// Makes room for an answer of `most` bytes and a newline. If there is none, writes the gathered bytes.
 #[inline]
 fn make_room<K: Sink>(most: usize, out: &mut Output, sink: &mut K) -> Result<(), Failed>
     requires { most < 8192 }
@@ -72,7 +72,7 @@ fn make_room<K: Sink>(most: usize, out: &mut Output, sink: &mut K) -> Result<(),
     Ok(())
 }
 
-/// Has a line answered, and answers whether an answer was a fault, this one or one before it.
+/// Answers a line. Returns whether this answer or one before it was a fault.
 #[inline]
 fn answer_one<R: LineRule<L>, K: Sink, L: Ledger>(
     rule: &R,
@@ -95,7 +95,7 @@ fn answer_one<R: LineRule<L>, K: Sink, L: Ledger>(
     Ok(before || is_fault)
 }
 
-/// The line whose end hasn't come, and whether an answer so far was a fault.
+/// The line that has not ended, and whether an answer so far was a fault.
 #[derive(Drop)]
 pub struct LineSplitter {
     pub line: LineBuffer,
@@ -103,14 +103,14 @@ pub struct LineSplitter {
 }
 
 impl LineSplitter {
-    /// Whether no byte of a line without its end has come.
+    /// Whether the line that has not ended is empty.
     fn is_empty(&self) -> bool
         ensures { IsTrue result ↔ (self.now.line ≡ []) }
     {
         self.line.is_empty()
     }
 
-    /// Has the line answered that ends with this part, and begins a new one. A line that lies whole in the part isn't
+    /// Answers the line that ends with this part, and begins a new one. A line that lies whole in the part is not
     /// copied.
     #[inline]
     fn end_line<R: LineRule<L>, K: Sink, L: Ledger>(
@@ -141,7 +141,7 @@ impl LineSplitter {
         Ok(())
     }
 
-    /// Answers the lines that end in the next bytes. What `out` held is discarded: it only lends its room.
+    /// Answers the lines that end in the next bytes. What `out` held is discarded: only its room is used.
     pub fn feed<R: LineRule<L>, K: Sink, L: Ledger>(
         &mut self,
         rule: &R,
@@ -172,7 +172,7 @@ impl LineSplitter {
         flush(out, sink)
     }
 
-    /// Answers a last line without a newline, where it isn't empty. What `out` held is discarded.
+    /// Answers a last line without a newline, unless it is empty. Discards what `out` held.
     pub fn finish<R: LineRule<L>, K: Sink, L: Ledger>(
         &mut self,
         rule: &R,

@@ -6,24 +6,24 @@ ghost use Rattle.line_engine.specs.Status.{code_of};
 /// How a run ended.
 #[derive(Clone, Copy, Debug, PartialEq, Eq)]
 pub enum Status {
-    /// Every line, or the input as a whole, was answered, none by a fault.
+    /// Every line, or the whole input, was answered without a fault.
     Done,
-    /// Every line, or the input as a whole, was answered, at least one by a fault.
+    /// Every line, or the whole input, was answered, at least once by a fault.
     Faults,
-    /// The words were no command, and the usage line was written.
+    /// The arguments were invalid, and the usage line was written.
     Usage,
     /// A read failed.
     ReadFault,
     /// A write failed.
     WriteFault,
-    /// There was no memory. A run over lines ends so before it reads or writes.
+    /// There was no memory. A run over lines then ends before it reads or writes.
     NoMemory,
     /// The input has more bytes than the limit.
     TooLong,
 }
 
 impl Status {
-    /// The status with which the program ends: 0 to 6, in the order above.
+    /// Returns the exit code of the program: 0 to 6, in the order above.
     pub fn code(self) -> u8
         ensures { result ≡ code_of self }
     {

@@ -1,11 +1,11 @@
-//! The lines of a text in memory, one at a time: each call takes the first of them.
+//! The lines of a text in memory, one at a time: each call returns the first.
 
 ghost use Rattle.std.specs.Prelude.{◌≡◌, ◌<◌, ◌∷◌, [], length};
 ghost use Rattle.line_engine.specs.Lines.{lines};
 
 use memchr::memchr;
 
-/// The first line of a text, without its newline, and what follows that.
+/// Returns the first line of a text, without its newline, and the text after it.
 pub fn first_line(text: &[u8]) -> (&[u8], &[u8])
     requires { ¬ (text.now ≡ []) }
     ensures lines { lines text.now ≡ result.0.now ∷ lines result.1.now }

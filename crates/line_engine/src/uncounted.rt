@@ -1,4 +1,4 @@
-//! A whole run over bytes in memory, with a counter of its own.
+//! A whole run over bytes in memory, with its own counter.
 
 ghost use Rattle.std.specs.Prelude.{◌≡◌, ◌≤◌, ◌<◌};
 
@@ -13,7 +13,7 @@ use std::sync::ledger::{Blank, Ledger};
 const ROOM: usize = 8000;
 
 impl MemoryRun {
-    /// How a run of these bytes ends, and what it writes. The run's own input is left out.
+    /// Returns how a run of these bytes ends, and what it writes. The run's own input is not used.
     pub fn of<P: MemoryProgram>(
         &self,
         alloc: Global,
@@ -40,7 +40,7 @@ impl MemoryRun {
     }
 }
 
-/// A run whose steps are counted on this blank.
+/// Runs a program with its steps counted on this blank.
 fn run_over<P: MemoryProgram, L: Ledger>(
     program: &P,
     alloc: Global,

@@ -24,10 +24,10 @@ use crate::{NoMemory, Source};
 use std::alloc::Global;
 use std::marker::Model;
 
-/// How many bytes an input that is read whole has at most, where no other limit is named.
+/// The longest input that is read whole without another limit, in bytes.
 pub const MAX_WHOLE: u64 = 1_048_576;
 
-/// How many bytes there is memory for from the start: one more than that, so that a longer input is seen to be one.
+/// How many bytes are allocated from the start: one more than `MAX_WHOLE`, so that a longer input is recognized.
 pub const WHOLE_BUFFER: usize = 1_048_577;
 
 /// How the reading of a whole input ended.
@@ -37,11 +37,11 @@ pub enum Filled {
     End,
     /// One byte past the limit.
     TooLong,
-    /// With a read that failed.
+    /// At a read that failed.
     ReadFault,
 }
 
-/// The bytes of an input. Contracts see it as the list of these bytes.
+/// The bytes of an input. Contracts see the list of these bytes.
 #[derive(Drop)]
 pub struct Whole {
     bytes: Vec<u8>,
@@ -59,7 +59,7 @@ impl Model for Whole {
 }
 
 impl Whole {
-    /// No bytes, with memory for 1,048,577 of them.
+    /// An empty input, with memory for 1,048,577 bytes.
     pub fn new(alloc: Global) -> Result<Whole, NoMemory>
         ensures { IfOk result (λ w. w ≡ []) }
     {
@@ -69,7 +69,7 @@ impl Whole {
         }
     }
 
-    /// Appends bytes. It takes no memory where they are at most 1,048,577 with those that are there.
+    /// Appends bytes. It allocates nothing if the total is at most 1,048,577 bytes.
     fn append(&mut self, part: &[u8]) -> Result<(), NoMemory>
         ensures ok { OnOk result (self.new ≡ self.old ++ part.now) }
         ensures memory { length self.old + length part.now ≤ WHOLE_BUFFER → IsOk result }
@@ -85,9 +85,9 @@ impl Whole {
 
     /// Reads an input to its end, or to the first byte past the limit, which is in bytes and at most 4,294,967,296.
     ///
-    /// Memory is taken as the input grows past 1,048,577 bytes; `NoMemory` where there is none. With a limit of at most
-    /// 1,048,576 it takes no memory and doesn't refuse. Each read asks for at most 4,096 bytes, and for at most limit +
-    /// 1 bytes less those already taken.
+    /// Memory is allocated as the input grows past 1,048,577 bytes; if that fails, the result is `NoMemory`. With a
+    /// limit of at most 1,048,576 it allocates nothing and cannot fail. Each read requests at most 4,096 bytes, and at
+    /// most limit + 1 bytes less those already taken.
     pub fn fill_within<S: Source>(&mut self, limit: u64, source: &mut S) -> Result<Filled, NoMemory>
         requires empty { self.old ≡ [] }
         requires most { limit ≤ 4294967296 }
@@ -115,7 +115,7 @@ impl Whole {
         Ok(Filled::TooLong)
     }
 
-    /// Reads an input of at most 1,048,576 bytes to its end, or to the first byte that is too much. It takes no memory.
+    /// Reads an input of at most 1,048,576 bytes to its end, or to the first byte past that. It allocates nothing.
     pub fn fill<S: Source>(&mut self, source: &mut S) -> Filled
         requires { self.old ≡ [] }
         ensures filled { HasFilled 1048576 (S.left source.old) (S.left source.new) (S.failures source.old)
@@ -128,7 +128,7 @@ impl Whole {
         }
     }
 
-    /// The bytes.
+    /// Returns the bytes.
     pub fn as_bytes(&self) -> &[u8]
         ensures { result.now ≡ self.now }
     {

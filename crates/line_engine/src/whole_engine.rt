@@ -1,5 +1,5 @@
-//! The whole-input engine: an input in, its answer out, whatever the rule that answers. Nothing is written before the
-//! input was read to its end and its answer is there.
+//! The whole-input engine: an input in, its answer out, by any rule. Nothing is written before the input was read to
+//! its end and answered.
 
 ghost use Rattle.std.specs.Prelude.{◌≡◌, ◌≤◌, ◌<◌, ◌⊎◌, List, ℕ, Some, length};
 ghost use Rattle.line_engine.specs.AnswerText.{AnswerText};
@@ -19,7 +19,7 @@ use fixed_steps::Steps;
 use std::alloc::Global;
 use std::sync::ledger::Ledger;
 
-/// Writes an answer, and says how the run ended.
+/// Writes an answer. Returns how the run ended.
 fn write_answer<K: Sink>(answer: &WholeAnswer, sink: &mut K) -> Status
     ensures { WritesText answer.now.text (status_of answer.now.fault) (K.written sink.old) (K.written sink.new)
         (K.failures sink.old) (K.failures sink.new) result }
@@ -31,12 +31,12 @@ fn write_answer<K: Sink>(answer: &WholeAnswer, sink: &mut K) -> Status
     }
 }
 
-/// Reads an input to its end, has it answered by a rule, and writes the answer.
+/// Reads an input to its end, answers it by a rule, and writes the answer.
 ///
-/// The limit is in bytes, at most 4,294,967,296. Memory for 1,048,577 bytes of input is taken first, and `NoMemory`
-/// where that fails, with nothing read. With a limit of at most 1,048,576 no further memory is taken for the input;
-/// with a greater one it is taken as the input grows. Nothing is written before the input is at its end and answered: a
-/// longer input, a read that failed and want of memory leave the sink as it is.
+/// The limit is in bytes, at most 4,294,967,296. Memory for 1,048,577 bytes of input is allocated first; if that fails,
+/// the status is `NoMemory` and nothing is read. With a limit of at most 1,048,576 no further memory is allocated for
+/// the input; with a greater one it is allocated as the input grows. Nothing is written before the input was read to
+/// its end and answered: a longer input, a failed read and missing memory leave the sink as it is.
 pub fn run_whole<R: WholeRule<L>, S: Source, K: Sink, L: Ledger>(
     alloc: Global,
     limit: u64,
@@ -47,7 +47,7 @@ pub fn run_whole<R: WholeRule<L>, S: Source, K: Sink, L: Ledger>(
 ) -> Status
     requires most { limit ≤ 4294967296 }
 
-    // What was taken and what was written, by status.
+    // The bytes read and written, by status.
     ensures run { HasWholeRun (R.Answers rule.now) limit (S.left source.old) (S.left source.new) (K.written sink.old)
         (K.written sink.new) result }
 
@@ -55,8 +55,8 @@ pub fn run_whole<R: WholeRule<L>, S: Source, K: Sink, L: Ledger>(
     ensures failures { HasFailures (S.failures source.old) (S.failures source.new) (K.failures sink.old)
         (K.failures sink.new) result }
 
-    // With no count risen, the answer to an input within the limit is written, and the status says whether it is a
-    // fault; or there was no memory.
+    // If no count rose, the answer to an input within the limit is written, and the status says whether it is a fault;
+    // or there was no memory.
     ensures output { (input : List ℕ) → S.left source.old ≡ Some input → length input ≤ limit
         → ¬ HasFailed (S.failures source.old) (S.failures source.new)
         → ¬ HasFailed (K.failures sink.old) (K.failures sink.new)
@@ -69,16 +69,15 @@ pub fn run_whole<R: WholeRule<L>, S: Source, K: Sink, L: Ledger>(
         → ¬ HasFailed (K.failures sink.old) (K.failures sink.new)
         → (result ≡ Status.NoMemory) ⊎ (result ≡ Status.TooLong) }
 
-    // Where a write failed, a prefix of the answer was written.
+    // If a write failed, a prefix of the answer was written.
     ensures prefix_on_write_fault { result ≡ Status.WriteFault → (input : List ℕ) (answer : AnswerText)
         → S.left source.old ≡ Some input
         → R.Answers rule.now input answer → AppendsPrefix (K.written sink.old) (K.written sink.new) answer.text }
 
-    // A run that ended before its input did, or for want of memory, left the sink as it was.
+    // A run with a failed read, an input that is too long or no memory left the sink as it was.
     ensures untouched { EndsBeforeWriting result → sink.new ≡ sink.old }
 
-    // What the source was asked for: no read asked for more than limit + 1 bytes less those taken, or for more than
-    // 4,096.
+    // No read requested more than limit + 1 bytes less those taken, or more than 4,096.
     ensures asked { AskedWithin limit (S.asked source.old) (S.asked source.new) }
 {
     let mut whole = match Whole::new(alloc) {

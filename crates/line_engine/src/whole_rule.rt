@@ -1,4 +1,4 @@
-//! What answers a whole input.
+//! Rules that answer whole inputs.
 
 ghost use Rattle.std.specs.Prelude.{◌≡◌, ◌≤◌, ℕ, List, length, IfOk};
 ghost use Rattle.line_engine.specs.AnswerText.{AnswerText};
@@ -10,7 +10,7 @@ use std::alloc::Global;
 use std::marker::Model;
 use std::sync::ledger::Ledger;
 
-/// The answer to a whole input: all the bytes that are to be written, and whether they hold a fault.
+/// The answer to a whole input: all the bytes to write, and whether they contain a fault.
 #[derive(Drop)]
 pub struct WholeAnswer {
     text: Vec<u8>,
@@ -26,7 +26,7 @@ impl Model for WholeAnswer {
 }
 
 impl WholeAnswer {
-    /// The answer of these bytes, with whether they hold a fault.
+    /// Makes an answer of these bytes, with whether they contain a fault.
     pub fn new(text: Vec<u8>, is_fault: bool) -> WholeAnswer
         ensures text { result.text ≡ text.items }
         ensures fault { result.fault ≡ is_fault }
@@ -34,14 +34,14 @@ impl WholeAnswer {
         WholeAnswer { text, is_fault }
     }
 
-    /// The bytes.
+    /// Returns the bytes.
     pub fn as_bytes(&self) -> &[u8]
         ensures { result.now ≡ self.now.text }
     {
         self.text.as_slice()
     }
 
-    /// Whether the bytes hold a fault.
+    /// Whether the bytes contain a fault.
     pub fn is_fault(&self) -> bool
         ensures { result ≡ self.now.fault }
     {
@@ -49,12 +49,12 @@ impl WholeAnswer {
     }
 }
 
-/// A rule that answers whole inputs. Its meaning is a relation of an input and its one answer.
+/// A rule that answers whole inputs. Its meaning is a relation between an input and its one answer.
 pub trait WholeRule<L: Ledger> {
-    /// Whether a text with its flag is the answer to an input: the rule's meaning.
+    /// The rule's meaning: whether a text with its flag is the answer to an input.
     ghost Answers: { Self → List ℕ → AnswerText → Type 0 };
 
-    /// The answer to an input of at most 4,294,967,296 bytes; or there was no memory for it.
+    /// Returns the answer to an input of at most 4,294,967,296 bytes, or `NoMemory`.
     fn answer(
         &self,
         alloc: Global,

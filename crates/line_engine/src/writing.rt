@@ -1,4 +1,4 @@
-//! The writing of a whole text, however little a sink takes at a time.
+//! Writes a whole text, in as many writes as the sink needs.
 
 ghost use Rattle.std.specs.Prelude.{◌≡◌, OnOk, OnErr};
 ghost use Rattle.std.specs.Io.KnownBytes.{Appends};
@@ -8,7 +8,7 @@ ghost use Rattle.line_engine.specs.Run.{WritesText};
 
 use crate::{Failed, Sink, Status};
 
-/// Writes the whole piece, however little the sink takes at a time.
+/// Writes the whole piece, in as many writes as the sink needs.
 pub fn write_whole<K: Sink>(sink: &mut K, piece: &[u8]) -> Result<(), Failed>
     ensures ok { OnOk result (Appends (K.written sink.old) (K.written sink.new) piece.now) }
     ensures err { OnErr result (AppendsPrefix (K.written sink.old) (K.written sink.new) piece.now) }
@@ -22,7 +22,7 @@ pub fn write_whole<K: Sink>(sink: &mut K, piece: &[u8]) -> Result<(), Failed>
     Ok(())
 }
 
-/// Writes a text whole, and then ends with the status `ending`; or with `WriteFault` where a write failed.
+/// Writes a whole text. Returns the status `ending`, or `WriteFault` if a write failed.
 pub fn write_text<K: Sink>(text: &[u8], ending: Status, sink: &mut K) -> Status
     ensures { WritesText text.now ending (K.written sink.old) (K.written sink.new) (K.failures sink.old)
         (K.failures sink.new) result }

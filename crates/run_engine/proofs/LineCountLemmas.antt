@@ -1,4 +1,4 @@
--- How many lines bytes have, and how many bytes are in them.
+-- The number of lines in some bytes, and the number of bytes in these lines.
 use Rattle.std.proofs.Common.{◌≡◌, ℕ, suc, ◌+◌, ◌≤◌, Bool, true, false, eqb, List, [], ◌∷◌, ◌++◌, length, refl, ap, ◌∙◌, arith, length-append}
 use Rattle.line_engine.specs.Inner.Progress.{bytes_in}
 use Rattle.line_engine.specs.Lines.{ended_lines, last_line, lines, onto_first, onto_rest, unended}
@@ -22,7 +22,7 @@ last_bytes : (rest : List ℕ) → bytes_in (last_line rest) ≡ length rest
 last_bytes [] = refl
 last_bytes (b ∷ rest) = omega arith
 
--- the lines that ended in the first bytes are no more than the lines of all, and have no more bytes
+-- the lines that ended in the first bytes are at most as many as all lines, and have at most as many bytes
 pub ended_within : (used more : List ℕ) → (bytes_in (ended_lines used) ≤ length (used ++ more)) × (length (ended_lines used) ≤ length (lines (used ++ more)))
 ended_within used more =
     let e = ap length (ended_lines-append used more) ∙ length-append (ended_lines used) (ended_lines (unended used ++ more)) in (

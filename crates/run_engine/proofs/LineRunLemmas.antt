@@ -1,4 +1,4 @@
--- Lines that are answered, one after the other.
+-- Lines answered one after the other.
 use Rattle.std.proofs.Common.{◌≡◌, ◌↔◌, ℕ, ◌+◌, ◌*◌, ◌≤◌, ◌<◌, ◌||◌, Bool, false, List, [], ◌∷◌, ◌++◌, Option, length, take, refl, sym, ap, ◌∙◌, subst, arith, append-nil, append_assoc, length-append, ⊎_elim, mul-le-mul_left, add-zero}
 use Rattle.std.proofs.lemmas.Bool.{cases_lt}
 use Rattle.std.proofs.lemmas.Grind.{common_steps}
@@ -21,7 +21,7 @@ or_assoc a b c = grind (arith, common_steps)
 or_false : (a : Bool) → (a || false) ≡ a
 or_false a = grind (arith, common_steps)
 
--- a line of which n bytes are kept has the answer of what is kept
+-- a line of more than n bytes has the answers of its first n bytes
 abbrev pub Keeping : (List ℕ → AnswerText → Type 0) → ℕ → Type 0
 Keeping A n = (line : List ℕ) (reply : AnswerText) → n < length line → (A (take n line) reply) ↔ (A line reply)
 
@@ -41,7 +41,7 @@ cheaper per_byte extra n line steps steps' cost =
 pub take_twice : (n : ℕ) (xs : List ℕ) → take n (take n xs) ≡ take n xs
 take_twice n xs = take_all n (take n xs) (omega (arith, length-take n xs))
 
--- ---- one line more
+-- ---- one more line
 module _ {C : Type 0} (message : C → List ℕ) where
   of_more : (replies : List AnswerText) (causes : List (Option C)) (reply : AnswerText) (cause : Option C) → AreOf message replies causes → IsOf message reply cause → AreOf message (replies ++ reply ∷ []) (causes ++ cause ∷ [])
   of_more [] [] reply cause are is = (is, tt)
@@ -110,7 +110,7 @@ module _ {R W C : Type 0} (A : List ℕ → AnswerText → Type 0) (message : C 
   }
 
   -- ---- the bytes of a chunk
-  -- a line that ends
+  -- a line ends
   pub line_goes : (first old new : Lines R W) (bytes made : List ℕ) (spent : ℕ) (part : List ℕ) (a b : Moment) → MakesLines A message Saw per_byte extra first bytes made spent going old → ended_lines part ≡ []
       → ((whole : List ℕ) → IsKept kept_length whole old.line → EndsLine A message Saw per_byte extra (whole ++ part) old new a b) → new.line ≡ []
       → Goes (MakesLines A message Saw per_byte extra first) bytes made spent (part ++ 10 ∷ []) going new a b
@@ -129,7 +129,7 @@ module _ {R W C : Type 0} (A : List ℕ → AnswerText → Type 0) (message : C 
         steps = omega (arith, one.cost);
       }
 
-  -- bytes of a line that hasn't ended
+  -- bytes of a line that has not ended
   pub part_goes : (first old new : Lines R W) (bytes made : List ℕ) (spent : ℕ) (part : List ℕ) (a : Moment) → MakesLines A message Saw per_byte extra first bytes made spent going old → ended_lines part ≡ []
       → new.line ≡ take kept_length (old.line ++ part) → new.watch ≡ old.watch → new.count ≡ old.count → new.has_fault ≡ old.has_fault → new.rule ≡ old.rule
       → Goes (MakesLines A message Saw per_byte extra first) bytes made spent part going new a a
@@ -160,7 +160,7 @@ module _ {R W C : Type 0} (A : List ℕ → AnswerText → Type 0) (message : C 
       same = ended_lines_quiet bytes part quiet
 
   -- ---- the end of the input
-  -- after which no byte is left
+  -- no byte is left after the last newline
   pub last_none : (first s : Lines R W) (bytes made : List ℕ) (spent : ℕ) (a : Moment) → MakesLines A message Saw per_byte extra first bytes made spent going s → unended bytes ≡ []
       → Goes (MakesLines A message Saw per_byte extra first) bytes made spent [] (finished s.has_fault) s a a
   last_none first s bytes made spent a makes none = record {
@@ -177,7 +177,7 @@ module _ {R W C : Type 0} (A : List ℕ → AnswerText → Type 0) (message : C 
     steps = omega arith;
   }
 
-  -- or a last line
+  -- a last line is left
   pub last_goes : (first old new : Lines R W) (bytes made : List ℕ) (spent : ℕ) (a b : Moment) → MakesLines A message Saw per_byte extra first bytes made spent going old → (unended bytes ++ []) ∷ [] ≡ last_line (unended bytes)
       → ((whole : List ℕ) → IsKept kept_length whole old.line → EndsLine A message Saw per_byte extra (whole ++ []) old new a b)
       → Goes (MakesLines A message Saw per_byte extra first) bytes made spent [] (finished new.has_fault) new a b

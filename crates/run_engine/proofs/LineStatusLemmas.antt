@@ -1,4 +1,4 @@
--- What a run over lines leaves, with its status, as `line_engine` says it.
+-- The outcome of a run over lines, and its status, in the terms of `line_engine`.
 use Rattle.std.proofs.Common.{◌≡◌, ◌⊎◌, ℕ, zero, suc, ◌+◌, ◌*◌, ◌≤◌, ◌||◌, Bool, true, false, List, [], ◌∷◌, ◌++◌, Option, length, take, drop, refl, sym, ap, ◌∙◌, subst, arith, inl, inr, append-nil, append_assoc, mul-le-mul_left}
 use Rattle.std.proofs.lemmas.List.{take_all, take-append-drop}
 use Rattle.std.specs.declared.convert.Infallible.{Infallible}
@@ -28,7 +28,7 @@ abbrev pub LinesMake : {R W C : Type 0} → (List ℕ → AnswerText → Type 0)
     → List ℕ → List ℕ → ℕ → How Infallible → Cut (Lines R W) → Type 0
 LinesMake A message Saw per_byte extra first bytes text spent how last = MakesLines A message Saw per_byte extra first bytes text spent how last.0
 
--- bytes within the limit have none after it
+-- no bytes are beyond the limit if all are within it
 nothing_after : (limit : ℕ) (bytes : List ℕ) → length bytes ≤ limit → drop limit bytes ≡ []
 nothing_after limit [] fits = nothing_dropped limit
   where
@@ -128,7 +128,7 @@ module _ {R W C : Type 0} (A : List ℕ → AnswerText → Type 0) (message : C 
   has_run none NoMemory s is run = absurd run.leaves.made.makes
   has_run none (Stopped never) s is run = absurd is
 
-  -- at most so many steps for the bytes taken and their lines
+  -- a bound of the steps for the bytes taken and their lines
   spent_for : (ls : List (List ℕ)) (text : List ℕ) (spent : ℕ) (bytes : List ℕ) → AnswersLines A message Saw per_byte extra first ls text spent last.0 → bytes_in ls ≤ length bytes → length ls ≤ length (lines bytes)
       → b.steps ≤ a.steps + spent → b.steps ≤ a.steps + per_byte * length bytes + extra * length (lines bytes)
   spent_for ls text spent bytes made few less steps =
@@ -181,7 +181,7 @@ module _ {R W C : Type 0} (A : List ℕ → AnswerText → Type 0) (message : C 
   has_cost NoMemory run = absurd run.leaves.made.makes
   has_cost (Stopped never) run = elim never [ ]
 
--- which count of failures rose
+-- the count of failures that rose
 pub has_failures : (a b : Seen) (end : End Infallible) (s : Status) → IsStatus end s → Failed a b end → HasFailures a.read_failures b.read_failures a.write_failures b.write_failures s
 has_failures a b Done s is f = let P : Status → Type 0 = HasFailures a.read_failures b.read_failures a.write_failures b.write_failures in subst P (sym is) (record { source = f.read; sink = f.write })
 has_failures a b Faults s is f = let P : Status → Type 0 = HasFailures a.read_failures b.read_failures a.write_failures b.write_failures in subst P (sym is) (record { source = f.read; sink = f.write })

@@ -1,4 +1,4 @@
--- What the proofs of the crates above may cite: what a machine does, one piece after the other
+-- Lemmas for the proofs of dependent crates: how a machine works, one piece after the other.
 pub use Rattle.run_engine.proofs.MachineLemmas.{feeds_after, goes_breaks, goes_more, goes_none, halts_after, halts_before}
 pub use Rattle.run_engine.proofs.PutLemmas.{puts_both, puts_held, puts_none}
 pub use Rattle.run_engine.proofs.PieceLemmas.{quiet_of}

@@ -1,4 +1,4 @@
--- What was put, one call after the other.
+-- The bytes put by one call after the other.
 use Rattle.std.proofs.Common.{◌≡◌, ℕ, List, [], ◌++◌, refl, sym, ap, ◌∙◌, append_assoc, append-nil, Option, subst}
 use Rattle.std.proofs.KnownBytes.{Appends-trans, Appends-nil}
 use Rattle.std.specs.Io.KnownBytes.{Appends}
@@ -17,11 +17,10 @@ source_both a b c p q = record {
   same = record { source = q.same.source ∙ p.same.source; sink = q.same.sink ∙ p.same.sink };
 }
 
--- nothing was put
 pub puts_none : (a : Seen) (held : List ℕ) → Puts a a held held []
 puts_none a held = record { gone = []; split = append-nil held; written = Appends-nil a.written; failures = refl; source = source_none a }
 
--- and after it more
+-- bytes put after other bytes
 pub puts_both : (a b c : Seen) (held held' held'' more most : List ℕ) → Puts a b held held' more → Puts b c held' held'' most → Puts a c held held'' (more ++ most)
 puts_both a b c held held' held'' more most p q = record {
   gone = p.gone ++ q.gone;
@@ -31,11 +30,11 @@ puts_both a b c held held' held'' more most p q = record {
   source = source_both a b c p.source q.source;
 }
 
--- bytes that are gathered behind what was
+-- bytes gathered after those before
 pub puts_held : (a : Seen) (held held' more : List ℕ) → held' ≡ held ++ more → Puts a a held held' more
 puts_held a held held' more is = record { gone = []; split = sym is; written = Appends-nil a.written; failures = refl; source = source_none a }
 
--- and after what was put a write failed
+-- a write failed after other bytes were put
 part_second : (a b c : Option (List ℕ)) (bs cs : List ℕ) → Appends a b bs → AppendsPrefix b c cs → AppendsPrefix a c (bs ++ cs)
 part_second a b c bs cs first part = record {
   prefix = bs ++ part.prefix;
@@ -51,17 +50,4 @@ breaks_second a b c held held' more most p q = record {
       (part_second a.written b.written c.written p.gone (held' ++ most) p.written q.part);
   failed = subst (λ n. HasFailed n c.write_failures) p.failures q.failed;
   source = source_both a b c p.source q.source;
-}
-
--- a prefix is one of more bytes too
-pub breaks_more : (a b : Seen) (held more most : List ℕ) → Breaks a b held more → Breaks a b held (more ++ most)
-breaks_more a b held more most p = record {
-  part = record {
-    prefix = p.part.prefix;
-    rest = p.part.rest ++ most;
-    split = sym (append_assoc held more most) ∙ ap (λ l. l ++ most) p.part.split ∙ append_assoc p.part.prefix p.part.rest most;
-    appends = p.part.appends;
-  };
-  failed = p.failed;
-  source = p.source;
 }

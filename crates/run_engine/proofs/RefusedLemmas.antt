@@ -1,4 +1,4 @@
--- What an observer keeps of the refused lines.
+-- The refused line that an observer keeps.
 use Rattle.std.proofs.Common.{◌≡◌, ◌≤◌, ◌∙◌, ℕ, List, [], ◌∷◌, Option, Some, None, ap, arith, refl, subst, sym, take}
 use Rattle.std.proofs.lemmas.List.{take-take}
 use Rattle.line_engine.specs.Lines.{kept_length}
@@ -7,7 +7,7 @@ use Rattle.run_engine.specs.Refused.{Counts, KeepsTheFirst, first_of, first_or, 
 use Rattle.run_engine.specs.declared.refusals.RefusedLine.{RefusedLine}
 use Rattle.run_engine.specs.declared.refusals.Refusals.{Refusals}
 
--- a prefix of what is kept is that prefix
+-- lines with the same first n bytes have the same first m bytes, if m is at most n
 prefix_as : (m n : ℕ) (told line : List ℕ) → m ≤ n → take n told ≡ take n line → take m told ≡ take m line
 prefix_as m n told line few same = sym (take-take m n told few) ∙ ap (λ l. take m l) same ∙ take-take m n line few
 
@@ -15,7 +15,7 @@ told_as : (told line : List ℕ) → take kept_length told ≡ take kept_length 
 told_as told line = prefix_as 160 kept_length told line (omega arith)
 
 module _ {C : Type 0} where
-  -- the first of some lines, and of those after a refused one
+  -- a refused line stays the first one, whatever comes after it
   first_stays : (first : Option (RefusedLine C)) (line : RefusedLine C) (next : Option (RefusedLine C)) → first_or (first_or first (Some line)) next ≡ first_or first (Some line)
   first_stays None line next = refl
   first_stays (Some first) line next = refl

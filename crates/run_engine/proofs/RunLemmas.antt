@@ -19,9 +19,9 @@ use Rattle.run_engine.specs.declared.engine.End.TheVariants.{Done, Faults, ReadF
 use Rattle.run_engine.proofs.PutLemmas.{breaks_second, puts_both}
 use Rattle.line_engine.proofs.Public.{AskedSoFar, Consumes-kept, Consumes-none}
 
--- ---- from what a machine leaves to what its run does
+-- ---- from the end of a machine to the end of its run
 module _ {M T : Type 0} (Makes : List ℕ → List ℕ → ℕ → How T → M → Type 0) (bytes made : List ℕ) (spent : ℕ) (last : M) (a : Moment) (b c : Seen) (held held' : List ℕ) (steps : ℕ) where
-  -- what was put is written
+  -- the bytes put are written
   pub goes_flushed : (next : List ℕ) (how : How T) → Goes Makes bytes made spent next how last a (moment b held steps) → Puts b c held held' [] → Goes Makes bytes made spent next how last a (moment c held' steps)
   goes_flushed next how goes puts = record {
     more = goes.more;
@@ -31,7 +31,7 @@ module _ {M T : Type 0} (Makes : List ℕ → List ℕ → ℕ → How T → M �
     steps = goes.steps;
   }
 
-  -- or a write fails
+  -- a write fails
   pub goes_broken : (ended : Bool) (next some rest : List ℕ) (how : How T) → next ≡ some ++ rest → UsesNext ended how rest → Goes Makes bytes made spent some how last a (moment b held steps) → Breaks b c held []
       → BreaksAmong Makes ended bytes made spent next last a (moment c held' steps)
   goes_broken ended next some rest how cut uses goes breaks = record {
@@ -90,7 +90,7 @@ within_limit limit count bytes buf fits =
         (λ (fits : count ≤ room). let is : count ≡ min count room = omega arith in take_all room (take count buf) (omega (arith, length-take count buf)) ∙ ap (λ n. take n buf) is)
         (cases_lt room count)
 
--- what of the bytes read is fed
+-- the bytes read that are fed
 pub fed : (limit count within taken : ℕ) (bytes buf : List ℕ) → length bytes ≤ limit → taken ≡ length bytes → within ≡ min count (limit - taken) → take limit (bytes ++ take count buf) ≡ take limit bytes ++ take within buf
 fed limit count within taken bytes buf fits is here =
     within_limit limit count bytes buf fits ∙ ap (λ n. bytes ++ take n buf) (ap (λ n. min count (limit - n)) (sym is) ∙ sym here)
@@ -155,7 +155,7 @@ module _ {M T : Type 0} (Makes : List ℕ → List ℕ → ℕ → How T → M �
     same = come.same;
   }
 
--- the next bytes were read, and are to be fed
+-- the next bytes were read and are not yet fed
 pub record Ready (limit : ℕ) (text : List ℕ) (spent : ℕ) (used next bytes : List ℕ) (a b : Moment) : Type 0 where
   pub consumed : Consumes a.seen.left b.seen.left bytes
   pub bound : length bytes ≤ limit + 1
@@ -167,11 +167,11 @@ pub record Ready (limit : ℕ) (text : List ℕ) (spent : ℕ) (used next bytes 
   pub output : Appends a.seen.written b.seen.written text
   pub steps : b.steps ≤ a.steps + spent
 
--- where the next bytes end the input, all of it is used
+-- if the input ended, all of it was taken and is within the limit
 abbrev pub Whole : ℕ → List ℕ → Moment → Bool → Type 0
 Whole limit bytes b ended = ended ≡ true → (IsAtEnd b.seen.left × (length bytes ≤ limit))
 
--- nothing is gathered, so what is put is written
+-- the bytes put are written, since nothing is gathered
 put_out : (a b : Seen) (held held' more : List ℕ) → held ≡ [] → held' ≡ [] → Puts a b held held' more → Appends a.written b.written more
 put_out a b held held' more none none' puts =
     subst (Appends a.written b.written) (sym (append-nil puts.gone) ∙ sym (ap (λ l. l ++ more) (sym none) ∙ puts.split ∙ ap (λ l. puts.gone ++ l) none')) puts.written
@@ -188,7 +188,7 @@ part_second a b c bs cs first part = record {
 }
 
 module _ {M T : Type 0} (Makes : List ℕ → List ℕ → ℕ → How T → M → Type 0) (limit : ℕ) where
-  -- a read
+  -- after a read
   pub ready : (taken room count within : ℕ) (buf : List ℕ) (m : M) (a : Moment) (b c : Seen) (held : List ℕ) (steps : ℕ) → (come : HasCome Makes limit taken m a (moment b held steps)) → taken ≤ limit
       → count ≤ room → taken + room ≤ limit + 1 → within ≡ min count (limit - taken) → Consumes b.left c.left (take count buf) → c.read_failures ≡ b.read_failures → KeepsSink b c
       → Ready limit come.text come.spent (take limit come.bytes) (take within buf) (come.bytes ++ take count buf) a (moment c held steps)
@@ -204,7 +204,7 @@ module _ {M T : Type 0} (Makes : List ℕ → List ℕ → ℕ → How T → M �
     steps = come.steps;
   }
 
-  -- and one that found the end
+  -- after a read that found the end
   pub ready_end : (taken count : ℕ) (buf : List ℕ) (m : M) (a : Moment) (b c : Seen) (held : List ℕ) (steps : ℕ) → (come : HasCome Makes limit taken m a (moment b held steps)) → taken ≤ limit
       → count ≡ 0 → Consumes b.left c.left (take count buf) → c.read_failures ≡ b.read_failures → KeepsSink b c
       → Ready limit come.text come.spent (take limit come.bytes) [] come.bytes a (moment c held steps)
@@ -224,7 +224,7 @@ module _ {M T : Type 0} (Makes : List ℕ → List ℕ → ℕ → How T → M �
     devices : KeepsSource b.seen c.seen → SameDevices a.seen c.seen
     devices k = record { source = k.same.source ∙ is.same.source; sink = k.same.sink ∙ is.same.sink }
 
-    -- what was fed was put
+    -- the text put for the bytes that were fed
     made_of : (some : List ℕ) (how : How T) → Goes Makes used text spent some how last b c → c.held ≡ [] → Made Makes how last a c bytes (used ++ some)
     made_of some how goes none = record {
       text = text ++ goes.more;
@@ -338,6 +338,6 @@ module _ {M T : Type 0} (Makes : List ℕ → List ℕ → ℕ → How T → M �
       same = devices goes.puts.source;
     }
 
--- what was asked for, where nothing more is asked
+-- the requests so far, if no read follows
 pub asked_on : (limit taken : ℕ) (old now next : Option Asked) → next ≡ now → AskedSoFar limit taken old now → AskedSoFar limit taken old next
 asked_on limit taken old now next same is = subst (AskedSoFar limit taken old) (sym same) is

@@ -1,2 +1,2 @@
--- Lemmas that impls cite.
+-- Lemmas that implementations cite.
 pub mod LineLaws

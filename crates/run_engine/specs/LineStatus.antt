@@ -1,4 +1,4 @@
--- The status of a run over lines, by its end.
+-- The status for each end of a run over lines.
 use Rattle.std.specs.Prelude.{◌≡◌}
 use Rattle.std.specs.declared.convert.Infallible.{Infallible}
 use Rattle.line_engine.specs.declared.status.Status.{Status}

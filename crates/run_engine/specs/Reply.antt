@@ -1,19 +1,18 @@
--- The answer to a line, or why it is refused.
+-- The answer to a line, or the cause of its refusal.
 use Rattle.std.specs.Prelude.{◌≡◌, ◌≤◌, ℕ, List, [], ◌++◌, true, false, Option, Some, None, length, codes}
 use Rattle.line_engine.specs.AnswerText.{AnswerText}
 
--- what is written for a text, or for a cause
+-- the bytes written for a text, or for a cause
 abbrev pub reply_of : {C : Type 0} → (C → List ℕ) → List ℕ → Option C → AnswerText
 reply_of message text None = record { text = text; fault = false }
 reply_of message text (Some cause) = record { text = codes "error: " ++ message cause; fault = true }
 
--- a line that is refused has no text
+-- a refused line has no text
 abbrev pub HasNone : {C : Type 0} → Option C → List ℕ → Type 0
 HasNone None text = Unit {0}
 HasNone (Some cause) text = text ≡ []
 
--- a rule appended the answer to a line, or nothing and the line is refused for a cause; what is written for it has at
--- most `most` bytes
+-- a rule appended the answer to a line, or appended nothing and refused the line; the reply has at most `most` bytes
 pub record Replies {C : Type 0} (A : List ℕ → AnswerText → Type 0) (message : C → List ℕ)
     (most : ℕ) (line before after : List ℕ) (cause : Option C) : Type 0 where
   pub text : List ℕ

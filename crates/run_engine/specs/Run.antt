@@ -1,4 +1,4 @@
--- What a run leaves, by its end: the one definition, whatever the machine.
+-- What a run leaves, by its end, for every machine.
 use Rattle.std.specs.Prelude.{◌≡◌, ◌+◌, ◌≤◌, ℕ, Bool, true, false, List, [], ◌++◌, length, take}
 use Rattle.std.specs.declared.option.Option.{Option}
 use Rattle.std.specs.Io.KnownBytes.{Appends, Consumes, IsAtEnd}
@@ -11,7 +11,7 @@ use Rattle.run_engine.specs.declared.engine.End.{End}
 use Rattle.run_engine.specs.declared.engine.End.TheVariants.{Done, Faults, ReadFault, WriteFault, NoMemory, TooLong}
 use Rattle.run_engine.specs.declared.engine.End.TheVariants.{Stopped}
 
--- these bytes were taken, this text was made of the first of them and put, in at most so many steps
+-- the bytes `taken` were taken, and the text made of `used` was written, in at most `spent` steps
 pub record Made {M T : Type 0} (Makes : List ℕ → List ℕ → ℕ → How T → M → Type 0)
     (how : How T) (last : M) (a b : Moment) (taken used : List ℕ) : Type 0 where
   pub text : List ℕ
@@ -21,7 +21,7 @@ pub record Made {M T : Type 0} (Makes : List ℕ → List ℕ → ℕ → How T 
   pub output : Appends a.seen.written b.seen.written text
   pub steps : b.steps ≤ a.steps + spent
 
--- an input within the limit was read to its end, and all that is made of it was written
+-- an input within the limit was read to its end, and all that was made of it was written
 pub record Completes {M T : Type 0} (Makes : List ℕ → List ℕ → ℕ → How T → M → Type 0)
     (last : M) (limit : ℕ) (a b : Moment) (fault : Bool) : Type 0 where
   pub input : List ℕ
@@ -29,21 +29,21 @@ pub record Completes {M T : Type 0} (Makes : List ℕ → List ℕ → ℕ → H
   pub at_end : IsAtEnd b.seen.left
   pub made : Made Makes (finished fault) last a b input input
 
--- what is made of the bytes taken, without their end, was written
+-- what was made of the bytes taken, without the end of the input, was written
 pub record Interrupts {M T : Type 0} (Makes : List ℕ → List ℕ → ℕ → How T → M → Type 0)
     (last : M) (limit : ℕ) (a b : Moment) : Type 0 where
   pub bytes : List ℕ
   pub within : length bytes ≤ limit
   pub made : Made Makes going last a b bytes bytes
 
--- one byte past the limit was taken, and what is made of those before it was written
+-- one byte past the limit was taken, and what was made of those before it was written
 pub record Exceeds {M T : Type 0} (Makes : List ℕ → List ℕ → ℕ → How T → M → Type 0)
     (last : M) (limit : ℕ) (a b : Moment) : Type 0 where
   pub bytes : List ℕ
   pub past : length bytes ≡ limit + 1
   pub made : Made Makes going last a b bytes (take limit bytes)
 
--- the machine stopped within the bytes taken, or at the end of the input
+-- the machine stopped within the bytes taken or, if `late`, at the end of the input
 pub record Stops {M T : Type 0} (Makes : List ℕ → List ℕ → ℕ → How T → M → Type 0)
     (last : M) (limit : ℕ) (a b : Moment) (why : T) : Type 0 where
   pub bytes : List ℕ
@@ -52,7 +52,7 @@ pub record Stops {M T : Type 0} (Makes : List ℕ → List ℕ → ℕ → How T
   pub at_end : late ≡ true → (IsAtEnd b.seen.left × (length bytes ≤ limit))
   pub made : Made Makes (stopped late why) last a b bytes (take limit bytes)
 
--- there was no memory: what is made of the first of the bytes taken was written
+-- memory ran out: what was made of a prefix of the bytes taken was written
 pub record Lacks {M T : Type 0} (Makes : List ℕ → List ℕ → ℕ → How T → M → Type 0)
     (last : M) (limit : ℕ) (a b : Moment) : Type 0 where
   pub bytes : List ℕ
@@ -62,14 +62,14 @@ pub record Lacks {M T : Type 0} (Makes : List ℕ → List ℕ → ℕ → How T
   pub cut : take limit bytes ≡ some ++ rest
   pub made : Made Makes lacking last a b bytes some
 
--- a machine that had ended when a write failed has used all of an input within the limit
+-- a machine that had finished when a write failed has used all of an input within the limit
 abbrev pub UsesAll : {T : Type 0} → How T → ℕ → List ℕ → List ℕ → Option (List ℕ) → Type 0
 UsesAll going limit bytes rest left = Unit {0}
 UsesAll (finished fault) limit bytes rest left = IsAtEnd left × (length bytes ≤ limit) × (rest ≡ [])
 UsesAll lacking limit bytes rest left = Unit {0}
 UsesAll (stopped late why) limit bytes rest left = Unit {0}
 
--- a write failed: a prefix was written of what is made of the first of the bytes taken
+-- a write failed: part of what was made of a prefix of the bytes taken was written
 pub record Fails {M T : Type 0} (Makes : List ℕ → List ℕ → ℕ → How T → M → Type 0)
     (last : M) (limit : ℕ) (a b : Moment) : Type 0 where
   pub bytes : List ℕ
@@ -86,7 +86,7 @@ pub record Fails {M T : Type 0} (Makes : List ℕ → List ℕ → ℕ → How T
   pub output : AppendsPrefix a.seen.written b.seen.written text
   pub steps : b.steps ≤ a.steps + spent
 
--- what a run that ended so has taken, made and written
+-- what a run with this end has taken, made and written
 abbrev pub Leaves : {M T : Type 0} → (List ℕ → List ℕ → ℕ → How T → M → Type 0) → M → ℕ → Moment → Moment → End T
     → Type 0
 Leaves Makes last limit a b Done = Completes Makes last limit a b false
@@ -102,7 +102,7 @@ pub record NoneFailed (a b : Seen) : Type 0 where
   pub read : b.read_failures ≡ a.read_failures
   pub write : b.write_failures ≡ a.write_failures
 
--- a read failed, or a write
+-- a read failed, and no write
 pub record ReadFailed (a b : Seen) : Type 0 where
   pub read : HasFailed a.read_failures b.read_failures
   pub write : b.write_failures ≡ a.write_failures
@@ -111,7 +111,7 @@ pub record WriteFailed (a b : Seen) : Type 0 where
   pub read : b.read_failures ≡ a.read_failures
   pub write : HasFailed a.write_failures b.write_failures
 
--- which count of failures rose in a run that ended so
+-- which count of failures rose in a run with this end
 abbrev pub Failed : {T : Type 0} → Seen → Seen → End T → Type 0
 Failed a b Done = NoneFailed a b
 Failed a b Faults = NoneFailed a b

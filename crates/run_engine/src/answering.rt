@@ -1,4 +1,4 @@
-//! The answer of a rule to a line, of which an observer is told.
+//! Answers a line by a rule and tells an observer.
 
 ghost use Rattle.std.specs.Prelude.{◌≡◌, ◌≤◌, ◌+◌, ◌*◌, ◌++◌, codes, length};
 ghost use Rattle.run_engine.specs.LineRun.{AnswersLine};

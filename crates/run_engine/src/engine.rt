@@ -1,4 +1,4 @@
-//! The one run: reads an input up to a limit, feeds a machine with it, and writes the text that the machine puts.
+//! The run: reads an input up to a limit, feeds it to a machine, and writes the text that the machine puts.
 
 ghost use Rattle.std.specs.Prelude.{◌≡◌, ◌≤◌, ◌<◌, ◌+◌, ◌^◌, [], true, ℕ, List, IfOk, length};
 ghost use Rattle.line_engine.specs.Asked.{longest_chunk};
@@ -14,7 +14,7 @@ use fixed_steps::Steps;
 use line_engine::Failed;
 use std::sync::ledger::Ledger;
 
-/// The most bytes that one read asks for.
+/// The most bytes that one read requests.
 pub const CHUNK: usize = 4096;
 
 /// How a run ended.
@@ -28,7 +28,7 @@ pub enum End<T> {
     ReadFault,
     /// A write failed.
     WriteFault,
-    /// The input has more bytes than the limit.
+    /// The input is longer than the limit.
     TooLong,
     /// There was no memory.
     NoMemory,
@@ -36,7 +36,7 @@ pub enum End<T> {
     Stopped(T),
 }
 
-/// How many bytes the next read asks for, after `taken` bytes.
+/// Returns how many bytes the next read requests, after `taken` bytes.
 fn next_room(limit: u64, taken: u64) -> usize
     requires limit { limit ≤ 2 ^ 62 }
     requires taken { taken ≤ limit }
@@ -121,8 +121,8 @@ fn end_input<M: Machine<L>, I: Streams, L: Ledger>(
 
 /// Feeds a machine with an input up to a limit, and writes the text that it puts.
 ///
-/// The limit is in bytes, at most 2^62. Each read asks for at most 4,096 bytes, and for at most limit + 1 bytes less
-/// those already taken. The text made of a chunk is written before the next chunk is read.
+/// The limit is in bytes, at most 2^62. Each read requests at most 4,096 bytes, and at most limit + 1 bytes less those
+/// already taken. The text made of a chunk is written before the next chunk is read.
 pub fn run<M: Machine<L>, I: Streams, L: Ledger>(
     machine: &mut M,
     limit: u64,

@@ -6,17 +6,16 @@ ghost use Rattle.run_engine.specs.Seen.{Breaks, Puts};
 use crate::streams::Streams;
 use line_engine::{Failed, Output};
 
-/// The devices of a run, and the bytes that are still to be written. Bytes are written in the order in which they were
-/// put.
+/// The devices of a run, and the bytes not yet written. Bytes are written in the order in which they were put.
 #[derive(Drop)]
 pub struct Gathered<I> {
     /// The devices.
     pub io: I,
-    /// The bytes still to be written, at most 8,192. A machine may append to them.
+    /// The bytes not yet written, at most 8,192. A machine may append to them.
     pub text: Output,
 }
 
-/// Writes the whole piece, however little the sink takes at a time.
+/// Writes the whole piece, in as many writes as the sink needs.
 fn write_all<I: Streams>(io: &mut I, piece: &[u8]) -> Result<(), Failed>
     ensures ok { OnOk result (Puts (I.seen io.old) (I.seen io.new) [] [] piece.now) }
     ensures err { OnErr result (Breaks (I.seen io.old) (I.seen io.new) [] piece.now) }
@@ -67,7 +66,7 @@ impl<I: Streams> Gathered<I> {
         Ok(())
     }
 
-    /// Puts bytes, however many. If they do not fit the buffer, they are written at once, after the gathered bytes.
+    /// Puts any number of bytes. If they do not fit the buffer, they are written at once, after the gathered bytes.
     pub fn put(&mut self, bytes: &[u8]) -> Result<(), Failed>
         ensures ok { OnOk result
             (Puts (I.seen self.old.io) (I.seen self.new.io) self.old.text self.new.text bytes.now) }

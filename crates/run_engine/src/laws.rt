@@ -7,13 +7,13 @@ use crate::machine::Machine;
 use crate::refusals::Refusals;
 use std::sync::ledger::Ledger;
 
-/// The bytes taken and the counts of failures determine how a run ended that found memory, and, unless a write failed,
+/// The bytes taken and the counts of failures determine how a run with enough memory ended and, unless a write failed,
 /// what it wrote.
 pub fn run_is_the_one<M: Machine<L>, L: Ledger>(_machine: &M)
     ensures { RunIsTheOne (M.Makes _machine.now) }
 {}
 
-/// `Refusals` that have seen lines keep the count of those that were refused, and the first of them.
+/// `Refusals` that have seen lines keep the count of the refused lines and the first of them.
 pub fn first_refusal_is_kept<C>(_refusals: &Refusals<C>)
     ensures { KeepsTheFirst _refusals.now }
 {}

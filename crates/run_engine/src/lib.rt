@@ -1,9 +1,9 @@
-//! One run over an input, whatever is done with it.
+//! One run over an input, for any machine.
 //!
-//! `streams` sees both devices of a run as one, `gathered` keeps the output that is still to be written, and `machine`
-//! defines what is fed with an input. `engine` has the one loop, which reads and feeds the machine. `pieces` is the
+//! `streams` treats both devices of a run as one, `gathered` keeps the output not yet written, and `machine` defines
+//! machines, which are fed with an input. `engine` has the one loop, which reads and feeds the machine. `pieces` is the
 //! loop of machines that cut their input at certain bytes, such as `lines`, which answers each line by a rule (`rule`,
-//! `answering`) and tells an observer of it (`watch`, `refusals`). `line_run` runs lines from a source into a sink.
+//! `answering`) and tells an observer (`watch`, `refusals`). `line_run` runs lines from a source to a sink.
 #![tactic(auto)]
 
 pub mod answering;

@@ -21,7 +21,7 @@ use std::alloc::Global;
 use std::convert::Infallible;
 use std::sync::ledger::Ledger;
 
-/// The status of a run over lines that ended so.
+/// Returns the status of a run over lines with this end.
 fn status_of(end: End<Infallible>) -> Status
     ensures { IsStatus end result }
 {
@@ -36,11 +36,11 @@ fn status_of(end: End<Infallible>) -> Status
     }
 }
 
-/// Has each line of a source answered by a rule, and writes each answer and a newline to a sink.
+/// Answers each line of a source by a rule, and writes each answer and a newline to a sink.
 ///
-/// Takes memory for one line buffer of 1,048,577 bytes, and returns `NoMemory` if that fails; takes none afterwards.
-/// Each read asks for at most 4,096 bytes, and for at most limit + 1 bytes less those already taken. The answers of the
-/// lines that ended in a chunk are written before the next chunk is read. `Lines` says what a line is.
+/// It allocates one line buffer of 1,048,577 bytes, and returns `NoMemory` if that fails; afterwards it allocates
+/// nothing. Each read requests at most 4,096 bytes, and at most limit + 1 bytes less those already taken. The answers
+/// to the lines that ended in a chunk are written before the next chunk is read. `Lines` defines lines.
 ///
 /// The limit is in bytes, at most 2^62.
 pub fn run_lines<R: LineRule<L> + Copy, S: Source, K: Sink, L: Ledger>(
@@ -53,7 +53,7 @@ pub fn run_lines<R: LineRule<L> + Copy, S: Source, K: Sink, L: Ledger>(
 ) -> Status
     requires most { limit ≤ 2 ^ 62 }
 
-    // What was taken and what was written, by status.
+    // The bytes read and written, by status.
     ensures run { HasRun (R.Answers rule.now) limit (S.left source.old) (S.left source.new) (K.written sink.old)
         (K.written sink.new) result }
 
@@ -61,8 +61,8 @@ pub fn run_lines<R: LineRule<L> + Copy, S: Source, K: Sink, L: Ledger>(
     ensures failures { HasFailures (S.failures source.old) (S.failures source.new) (K.failures sink.old)
         (K.failures sink.new) result }
 
-    // With no count risen, an input within the limit is answered whole, and the status says whether a line was refused;
-    // or there was no memory.
+    // If no count rose, an input within the limit is answered whole, and the status says whether a line was refused; or
+    // there was no memory.
     ensures output { (input : List ℕ) → S.left source.old ≡ Some input → length input ≤ limit
         → ¬ HasFailed (S.failures source.old) (S.failures source.new)
         → ¬ HasFailed (K.failures sink.old) (K.failures sink.new)
@@ -81,14 +81,13 @@ pub fn run_lines<R: LineRule<L> + Copy, S: Source, K: Sink, L: Ledger>(
         → AreAnswers (R.Answers rule.now) (lines input) replies
         → AppendsPrefix (K.written sink.old) (K.written sink.new) (written_of replies) }
 
-    // How many bytes were taken, and how many steps.
+    // How many bytes were read, and how many steps that took.
     ensures cost { Spends limit R.PER_BYTE R.EXTRA (S.left source.old) (S.left source.new) steps.old steps.new }
 
-    // What the source was asked for: no read asked for more than limit + 1 bytes less those taken, or for more than
-    // 4,096.
+    // No read requested more than limit + 1 bytes less those taken, or more than 4,096.
     ensures asked { AskedWithin limit (S.asked source.old) (S.asked source.new) }
 
-    // Nothing was read or written.
+    // Without memory, nothing was read or written.
     ensures memory { result ≡ Status.NoMemory
         → (source.new ≡ source.old) × (sink.new ≡ sink.old) × (steps.new ≡ steps.old) }
 {

@@ -20,7 +20,7 @@ use std::alloc::{AllocError, Global};
 use std::convert::Infallible;
 use std::sync::ledger::Ledger;
 
-/// Lines, each answered by a rule. A line ends at a newline byte, which isn't part of it; the rule is given its first
+/// Lines, each answered by a rule. A line ends at a newline byte, which is not part of it; the rule gets its first
 /// 1,048,577 bytes. The bytes after the last newline, if any, are a line too.
 #[derive(Drop)]
 pub struct Lines<R, W> {
@@ -30,14 +30,14 @@ pub struct Lines<R, W> {
     pub watch: W,
     /// The first bytes of the line that has not ended.
     pub line: LineBuffer,
-    /// How many lines ended; the count stays at the last value of u64.
+    /// How many lines ended; the count stays at `u64::MAX`.
     pub count: u64,
     /// Whether a line was refused.
     pub has_fault: bool,
 }
 
 impl<R, W> Lines<R, W> {
-    /// No line yet. Takes memory for one line of 1,048,577 bytes, and none afterwards.
+    /// The state before the first line. Allocates one line of 1,048,577 bytes, and nothing afterwards.
     pub fn new(alloc: Global, rule: R, watch: W) -> Result<Lines<R, W>, AllocError>
     where
         R: Drop,
@@ -96,7 +96,7 @@ impl<R, W> Lines<R, W> {
         self.line.clear();
     }
 
-    /// Answers the line whose last part is `part`, and begins a new one. A line that lies whole in the part isn't
+    /// Answers the line whose last part is `part`, and begins a new one. A line that lies whole in the part is not
     /// copied.
     #[inline(always)]
     fn end_line<I: Streams, L: Ledger>(

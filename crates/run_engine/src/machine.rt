@@ -1,4 +1,4 @@
-//! What is fed with an input, piece by piece.
+//! Machines, which are fed with an input piece by piece.
 
 ghost use Rattle.std.specs.Prelude.{◌≡◌, ℕ, List};
 ghost use Rattle.run_engine.specs.Machines.{Agree, Feeds, Finishes, How, IsGoing, going};
@@ -16,17 +16,17 @@ pub enum Halt<T> {
     WriteFault,
     /// There was no memory.
     NoMemory,
-    /// The machine has a reason of its own. The text that it made before is put, and may still have to be written.
+    /// A reason of the machine's own. The text that it made before is put, but maybe not yet written.
     Stopped(T),
 }
 
-/// What answers an input, piece by piece.
+/// A machine that answers an input piece by piece.
 pub trait Machine<L: Ledger> {
     /// The machine's own reason to end before its input does.
     type Stop: Drop;
 
-    /// The meaning: a relation of how the machine began, the bytes that it was fed with, the text that it made of them,
-    /// a bound on its steps, how it stands with its input, and what it has become.
+    /// The meaning: a relation between the machine at its start, the bytes fed to it, the text that it made of them, a
+    /// bound on its steps, how it stands with its input, and the machine now.
     ghost Makes: { Self → List ℕ → List ℕ → ℕ → How Self.Stop → Self → Type 0 };
 
     /// Takes the next bytes of the input, and puts the text that it makes of them.

@@ -1,4 +1,4 @@
-//! Machines whose input is cut into pieces at certain bytes, as at newlines: one loop for all of them.
+//! Machines that cut their input into pieces at certain bytes, such as newlines: one loop for all of them.
 
 ghost use Rattle.std.specs.Prelude.{◌≡◌, ◌<◌, ◌++◌, ◌∷◌, [], Bool, List, MatchOption, ℕ, get_or, length, take, false};
 ghost use Rattle.std.specs.Prelude.{true};
@@ -13,18 +13,18 @@ use fixed_steps::Steps;
 use memchr::memchr;
 use std::sync::ledger::Ledger;
 
-/// What answers the pieces of an input.
+/// A machine for the pieces of an input.
 pub trait Pieces<L: Ledger> {
     /// Its own reason to end before its input does.
     type Stop: Drop;
 
-    /// Its meaning, as that of a machine.
+    /// Its meaning, like that of a machine.
     ghost Makes: { Self → List ℕ → List ℕ → ℕ → How Self.Stop → Self → Type 0 };
 
     /// Whether a byte ends a piece.
     ghost ends: { ℕ → Bool };
 
-    /// The index of the first byte that ends a piece.
+    /// Returns the index of the first byte that ends a piece.
     fn find(bytes: &[u8]) -> Option<usize>
         ensures { MatchOption result (HasNone ends bytes.now)
             (λ end. (end < length bytes.now) × HasNone ends (take end bytes.now)
@@ -119,7 +119,7 @@ impl<P: Pieces<L>, L: Ledger> Machine<L> for Cut<P> {
     ghost one_law = { λ first a b. P.one_law first.0 a.0 b.0 };
 }
 
-/// The index of the first newline.
+/// Returns the index of the first newline.
 #[inline(always)]
 pub fn find_newline(bytes: &[u8]) -> Option<usize>
     ensures { MatchOption result (HasNone is_newline bytes.now)

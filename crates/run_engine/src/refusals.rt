@@ -5,7 +5,7 @@ ghost use Rattle.std.specs.Prelude.{◌≡◌, None, take};
 use crate::watch::Watch;
 use text_buffer::TextBuffer;
 
-/// The most bytes of a line that are kept.
+/// How many bytes of a line are kept.
 const KEPT: usize = 160;
 
 /// A refused line: its number, from 1, its first 160 bytes, and the cause.
@@ -16,14 +16,14 @@ pub struct RefusedLine<C> {
     pub cause: C,
 }
 
-/// The refused lines: their count, which stays at the last value of u64, and the first of them.
+/// The refused lines: their count, which stays at `u64::MAX`, and the first of them.
 #[derive(Drop)]
 pub struct Refusals<C> {
     pub count: u64,
     pub first: Option<RefusedLine<C>>,
 }
 
-/// The first bytes of a line.
+/// Returns the first bytes of a line.
 fn first_bytes(line: &[u8]) -> TextBuffer<KEPT>
     ensures { result ≡ take 160 line.now }
 {
@@ -34,7 +34,7 @@ fn first_bytes(line: &[u8]) -> TextBuffer<KEPT>
 }
 
 impl<C> Refusals<C> {
-    /// No line is refused.
+    /// The state before any line is refused.
     pub fn new() -> Refusals<C>
         ensures count { result.count ≡ 0 }
         ensures first { result.first ≡ None }

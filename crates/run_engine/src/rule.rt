@@ -1,4 +1,4 @@
-//! What answers a line.
+//! Rules that answer lines.
 
 ghost use Rattle.std.specs.Prelude.{◌≡◌, ◌+◌, ◌*◌, ◌≤◌, ◌<◌, ◌++◌, ◌↔◌, ℕ, List, length, take};
 ghost use Rattle.line_engine.specs.AnswerText.{AnswerText};
@@ -20,18 +20,18 @@ pub trait Cause {
         ensures { out.new ≡ out.old ++ message self.now };
 }
 
-/// A rule that answers lines. Its meaning is a relation of a line and its one answer.
+/// A rule that answers lines. Its meaning is a relation between a line and its one answer.
 pub trait Rule<L: Ledger> {
     /// Why a line may be refused.
     type Cause: Cause + Drop;
 
-    /// The most steps that an answer takes for each byte of its line.
+    /// The most steps of an answer for each byte of its line.
     const PER_BYTE: u64;
 
-    /// The most steps that an answer takes beside those for the bytes.
+    /// The most steps of an answer in addition to those for the bytes.
     const EXTRA: u64;
 
-    /// The most bytes that an answer has, or `error: ` and a message, without the newline: at most 8,191.
+    /// The longest answer, or `error: ` and a message, in bytes without the newline: at most 8,191.
     const MAX_ANSWER: usize;
 
     ghost PER_BYTE: { ℕ };
@@ -49,7 +49,7 @@ pub trait Rule<L: Ledger> {
         ensures answer { Replies (Answers self.now) Self.Cause.message MAX_ANSWER line.now out.old out.new result }
         ensures cost { steps.new ≤ steps.old + PER_BYTE * length line.now + EXTRA };
 
-    /// An answer and its newline fit the buffer.
+    /// An answer and its newline fit into the buffer.
     ghost room_law: { MAX_ANSWER < 8192 };
 
     /// A line has at most one answer.
@@ -57,9 +57,9 @@ pub trait Rule<L: Ledger> {
         → a ≡ b };
 }
 
-/// A rule that needs only the bytes of a line that are kept.
+/// A rule that needs only the kept prefix of a line.
 pub trait LineRule<L: Ledger>: Rule<L> {
-    /// A line that is longer than what is kept is answered like the prefix that is kept.
+    /// A line that is longer than the kept prefix has the same answer as that prefix.
     ghost kept_law: { (rule : Self) (line : List ℕ) (reply : AnswerText) → kept_length < length line
         → (Self.Answers rule (take kept_length line) reply ↔ Self.Answers rule line reply) };
 }

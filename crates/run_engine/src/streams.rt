@@ -1,4 +1,4 @@
-//! Both devices of a run, seen as one.
+//! Both devices of a run, treated as one.
 
 ghost use Rattle.std.specs.Prelude.{◌≡◌, ◌<◌, length, IfOk};
 ghost use Rattle.std.specs.Io.{ReadsAtMost, WritesAtMost};
@@ -8,16 +8,16 @@ use line_engine::{Failed, Sink, Source};
 
 /// Where the bytes of a run come from, and where they go.
 pub trait Streams {
-    /// What contracts see of both devices: the bytes that are left and those that were written, what reads asked for,
-    /// how often each device failed, and which devices they are.
+    /// What contracts see of both devices: the bytes left and the bytes written, what reads requested, how often each
+    /// device failed, and which devices they are.
     ghost seen: { Self → Seen };
 
-    /// Puts the next bytes at the start of the buffer and returns their count, as `Source::read` does.
+    /// Reads the next bytes into the start of the buffer and returns their count, as `Source::read` does.
     fn read(&mut self, buf: &mut [u8]) -> Result<usize, Failed>
         ensures bound { ReadsAtMost result buf.new }
         ensures reads { Reads (seen self.old) (seen self.new) (length buf.old) buf.new result };
 
-    /// Takes a prefix of the piece and returns its length, as `Sink::write` does.
+    /// Writes a prefix of the piece and returns its length, as `Sink::write` does.
     fn write(&mut self, piece: &[u8]) -> Result<usize, Failed>
         ensures bound { WritesAtMost result piece.now }
         ensures progress { 0 < length piece.now → IfOk result (λ n. 0 < n) }

@@ -2,12 +2,12 @@
 
 ghost use Rattle.std.specs.Prelude.{ℕ, List, Option};
 
-/// An observer, told of each line and of the cause for which it is refused.
+/// An observer, which is told of each line and of the cause if the line is refused.
 pub trait Watch<C> {
-    /// What an observer becomes when it is told of a line: of its number, its bytes, and why it is refused, if it is.
+    /// How an observer changes when it is told of a line: its number, its bytes, and why it is refused, if it is.
     ghost Saw: { Self → ℕ → List ℕ → Option C → Self → Type 0 };
 
-    /// Notes that a line was answered, or refused for a cause. Lines are numbered from 1.
+    /// Records that a line was answered, or refused for a cause. Lines are numbered from 1.
     fn see(&mut self, number: u64, line: &[u8], cause: &Option<C>)
         ensures { Saw self.old number line.now cause.now self.new };
 }

@@ -1,4 +1,4 @@
--- How far answering has come, between two pieces of an input.
+-- Progress of the answers, between two chunks of an input.
 use Rattle.std.specs.Prelude.{◌≡◌, ℕ, ◌+◌, ◌*◌, ◌≤◌, ◌||◌, List, [], ◌∷◌, ◌++◌, Bool, true, false, length, take}
 use Rattle.std.specs.declared.option.Option.{Option}
 use Rattle.std.specs.Io.KnownBytes.{Appends}
@@ -11,18 +11,18 @@ use Rattle.line_engine.specs.declared.status.Status.{Status}
 use Rattle.line_engine.specs.declared.status.Status.TheVariants.{Done, Faults, Usage, ReadFault, WriteFault, NoMemory}
 use Rattle.line_engine.specs.declared.status.Status.TheVariants.{TooLong}
 
--- of the bytes gathered and those that came, a prefix was written, and the rest is gathered
+-- a prefix of the gathered bytes and of the new ones was written, and the rest is gathered
 pub record Flushes (held more held' : List ℕ) (old new : Option (List ℕ)) : Type 0 where
   pub gone : List ℕ
   pub split : held ++ more ≡ gone ++ held'
   pub appends : Appends old new gone
 
--- how many bytes these lines have together
+-- how many bytes these lines have in total
 abbrev pub bytes_in : List (List ℕ) → ℕ
 bytes_in [] = 0
 bytes_in (line ∷ lines) = length line + bytes_in lines
 
--- the answers that are gathered, what was written, whether an answer so far names a fault, and the steps so far
+-- the gathered answers, the written bytes, whether an answer so far reports a fault, and the steps so far
 pub record State : Type 0 where
   pub held : List ℕ
   pub written : Option (List ℕ)
@@ -33,7 +33,7 @@ pub record State : Type 0 where
 abbrev pub state : List ℕ → Option (List ℕ) → Bool → ℕ → State
 state held written fault steps = record { held = held; written = written; fault = fault; steps = steps }
 
--- this line was answered, in at most per_byte steps for each of its bytes and extra more
+-- the line was answered, in at most `per_byte` steps for each of its bytes plus `extra`
 pub record AnsweredLine (A : List ℕ → AnswerText → Type 0)
     (per_byte extra : ℕ) (line : List ℕ) (before after : State) : Type 0 where
   pub reply : AnswerText
@@ -42,12 +42,12 @@ pub record AnsweredLine (A : List ℕ → AnswerText → Type 0)
   pub faulty : after.fault ≡ (before.fault || reply.fault)
   pub cost : after.steps ≤ before.steps + per_byte * length line + extra
 
--- a write failed before the next line was answered: a prefix of what was gathered was written
+-- a write failed before the next line was answered: a prefix of the gathered bytes was written
 pub record StopsBefore (before : State) (written : Option (List ℕ)) (steps : ℕ) : Type 0 where
   pub part : AppendsPrefix before.written written before.held
   pub cost : steps ≡ before.steps
 
--- these lines were answered, in at most per_byte steps for each of their bytes and extra for each of them
+-- the lines were answered, in at most `per_byte` steps for each byte and `extra` for each line
 pub record Answered (A : List ℕ → AnswerText → Type 0)
     (per_byte extra : ℕ) (lines : List (List ℕ)) (before after : State) : Type 0 where
   pub replies : List AnswerText
@@ -56,7 +56,7 @@ pub record Answered (A : List ℕ → AnswerText → Type 0)
   pub faulty : after.fault ≡ (before.fault || any_fault replies)
   pub cost : after.steps ≤ before.steps + per_byte * bytes_in lines + extra * length lines
 
--- the first of these lines were answered, and a prefix of what was to be written for them was written
+-- the first of these lines were answered, and a prefix of their output was written
 pub record AnswersUntilFailure (A : List ℕ → AnswerText → Type 0)
     (per_byte extra : ℕ) (lines : List (List ℕ)) (before : State) (written : Option (List ℕ))
     (steps : ℕ) : Type 0 where
@@ -68,12 +68,12 @@ pub record AnswersUntilFailure (A : List ℕ → AnswerText → Type 0)
   pub part : AppendsPrefix before.written written (before.held ++ written_of replies)
   pub cost : steps ≤ before.steps + per_byte * bytes_in some + extra * length some
 
--- the first n bytes of a line that hasn't ended are kept
+-- the first `n` bytes of an unended line are kept
 pub record IsKept (n : ℕ) (whole kept : List ℕ) : Type 0 where
   pub quiet : ended_lines whole ≡ []
   pub prefix : kept ≡ take n whole
 
--- the last lines of an input were answered, or writing was cut short among them, and how the run ends
+-- the last lines of an input were answered, or writing stopped among them, and the run ends with this status
 abbrev pub EndsLines : (List ℕ → AnswerText → Type 0) → ℕ → ℕ → List (List ℕ) → State → Option (List ℕ) → ℕ → ℕ → ℕ
     → Status → Type 0
 EndsLines A per_byte extra lines before written steps failures failures' Done = Answered A per_byte extra lines before

@@ -1,4 +1,4 @@
--- What is made of lines is determined.
+-- The output for lines is determined.
 use Rattle.std.proofs.Common.{◌≡◌, ◌||◌, ℕ, List, Option, ap, sym, ◌∙◌}
 use Rattle.std.specs.declared.convert.Infallible.{Infallible}
 use Rattle.line_engine.proofs.Public.{answers_one}

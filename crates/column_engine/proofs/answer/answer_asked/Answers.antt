@@ -1,6 +1,6 @@
-use Rattle.std.proofs.Common.{◌≡◌, ◌∙◌, Bool, List, ℕ, ap, if◌then◌else◌}
+use Rattle.std.proofs.Common.{◌∙◌, Bool, List, ℕ, ap, if◌then◌else◌}
 use Rattle.line_engine.specs.AnswerText.{AnswerText}
-use Rattle.column_engine.specs.Answers.{FieldAnswer, as_field, in_quotes, keeps_quotes, stays}
+use Rattle.column_engine.specs.Answers.{FieldAnswer, as_field, in_quotes, stays}
 use Rattle.column_engine.proofs.answer.answer_asked.Goals as goal
 
 pub returns-clause-answer : goal.returns-clause-answer

@@ -90,7 +90,7 @@ returns-in-Ok-eq0-clause-cost g c =
     (subst (λ l. Answered (g.R.LineRule.Answers c.args.rule.now) g.R.LineRule.PER_BYTE g.R.LineRule.EXTRA (ended_lines l) (state [] before false c.args.steps.now) (state [] between c.loop-taken.splitter.has_fault c.loop-taken.steps)) all inv.answered)
     (c.end_lines.ensures.ends (unended inv.bytes) (kept_unended kept_length inv.bytes c.loop-taken.splitter.line (inv.line ∙ ap (λ l. take kept_length (unended l)) all)))
 
--- what of the bytes read was fed
+-- the bytes read that were fed
 fed : (limit count within taken : ℕ) (bytes buf : List ℕ) → length bytes ≤ limit → taken ≡ length bytes → within ≡ min count (limit - taken) → take limit (bytes ++ take count buf) ≡ bytes ++ take within buf
 fed limit count within taken bytes buf fits is here =
     within_limit limit count bytes buf fits ∙ ap (λ n. bytes ++ take n buf) (ap (λ n. min count (limit - n)) (sym is) ∙ sym here)

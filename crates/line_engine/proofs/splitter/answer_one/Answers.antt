@@ -1,14 +1,14 @@
 use Rattle.std.proofs.Common.{◌≡◌, Bool, true, false, ◌||◌, List, ℕ, Option, [], ◌∷◌, ◌++◌, ◌∙◌, sym, ap, append-nil, append_assoc}
 use Rattle.line_engine.specs.Inner.Progress.{Flushes}
 
--- whether an answer so far is a fault
+-- the flag of faults after one more answer
 now_true : (before fault : Bool) → before ≡ true → before ≡ (before || fault)
 now_true before fault is = rw is
 
 now_false : (before fault result : Bool) → before ≡ false → result ≡ fault → result ≡ (before || fault)
 now_false before fault result is same = rw is same
 
--- what was appended after some was written
+-- the bytes appended after some were written
 flushes_then : (held held' text all : List ℕ) (a b : Option (List ℕ)) → Flushes held [] held' a b → all ≡ (held' ++ text) ++ 10 ∷ [] → Flushes held (text ++ 10 ∷ []) all a b
 flushes_then held held' text all a b passes is = record {
   gone = passes.gone;

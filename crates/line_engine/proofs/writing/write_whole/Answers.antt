@@ -4,7 +4,7 @@ use Rattle.std.proofs.lemmas.Grind.{common_steps}
 use Rattle.std.proofs.lemmas.List.{take_rest, take-append-drop}
 use Rattle.line_engine.proofs.writing.write_whole.Goals as goal
 
--- the prefix grows by what was taken
+-- the prefix grows by the bytes taken
 moves : (piece prefix rest : List ℕ) (count : ℕ) → piece ≡ prefix ++ rest → piece ≡ (prefix ++ take count rest) ++ take (length rest - count) (drop count rest)
 moves piece prefix rest count split =
     split ∙ ap (λ l. prefix ++ l) (sym (take-append-drop count rest)) ∙ sym (append_assoc prefix (take count rest) (drop count rest))

@@ -5,7 +5,7 @@ use Rattle.std.proofs.Math.Seq.{take-append-add}
 use Rattle.line_engine.specs.declared.line_buffer.TheConstants.{KEPT}
 use Rattle.line_engine.proofs.line_buffer.LineBuffer.append.Goals as goal
 
--- what is kept of bytes after the old ones
+-- the bytes kept after the old ones
 keeps : (old part : List ℕ) (limit : ℕ) → length old ≤ limit → old ++ take (min (limit - length old) (length part)) part ≡ take limit (old ++ part)
 keeps old part limit fits =
     let whole : limit ≡ length old + (limit - length old) = omega arith in

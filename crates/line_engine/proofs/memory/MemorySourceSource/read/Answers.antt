@@ -3,7 +3,7 @@ use Rattle.std.proofs.lemmas.Grind.{common_steps}
 use Rattle.std.proofs.lemmas.List.{take_at, length-take-le, drop-drop, take-append-drop, drop_all}
 use Rattle.line_engine.proofs.memory.MemorySourceSource.read.Goals as goal
 
--- what is read, and what is left after it
+-- the bytes read, and the bytes left after them
 moves : (bytes buf copied : List ℕ) (at count : ℕ) → count ≤ length (drop at bytes) → copied ≡ take count (drop at bytes)
     → drop at bytes ≡ take count (copied ++ drop count buf) ++ drop (at + count) bytes
 moves bytes buf copied at count fits is =
