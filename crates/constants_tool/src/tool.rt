@@ -1,12 +1,12 @@
-//! What the program is.
+//! The program.
 
-use fixed_constants::run_forms;
+use fixed_constants::run_constants;
 use fixed_steps::Steps;
 use line_engine::{Program, Sink, Source, Status};
 use std::alloc::Global;
 use std::sync::ledger::Ledger;
 
-/// The program: its run is the one of fixed_constants.
+/// The program. Its run is that of fixed_constants.
 #[derive(Clone, Copy)]
 pub struct ConstantsTool;
 
@@ -28,7 +28,7 @@ impl<L: Ledger> Program<L> for ConstantsTool {
         sink: &mut K,
         steps: &mut Steps<L>,
     ) -> Status {
-        run_forms(alloc, args, source, sink, steps)
+        run_constants(alloc, args, source, sink, steps)
     }
 
     ghost empty_law = { λ tool word empty. empty_word word empty };

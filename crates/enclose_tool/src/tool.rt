@@ -1,4 +1,4 @@
-//! What the program is.
+//! The program.
 
 use fixed_enclose::run_enclose;
 use fixed_steps::Steps;
@@ -6,7 +6,7 @@ use line_engine::{Program, Sink, Source, Status};
 use std::alloc::Global;
 use std::sync::ledger::Ledger;
 
-/// The program: its run is the one of fixed_enclose.
+/// The program. Its run is that of fixed_enclose.
 #[derive(Clone, Copy)]
 pub struct EncloseTool;
 

@@ -1,4 +1,4 @@
--- The amount of a read number.
+-- The amount that a numeral reads as, or its refusal.
 use Rattle.std.proofs.Common.{◌≡◌, ◌↔◌, ℕ, ℤ, Bool, true, IsTrue, List, inr, subst}
 use Rattle.fixed_bits.specs.Images.{IsImage, IsOutOfRangeBy}
 use Rattle.fixed_bits.specs.Numbers.{IsNumber}

@@ -1,4 +1,4 @@
--- What more is said of a numeral whose number is out of range.
+-- The explanation of a numeral whose number is out of range.
 use Rattle.std.specs.Prelude.{◌≡◌, ℕ, List, ◌++◌, true, codes, if◌then◌else◌}
 use Rattle.fixed_bits.specs.Ranges.{greatest, lowest}
 use Rattle.fixed_bits.specs.declared.mode.ReadMode.{ReadMode}
@@ -18,17 +18,17 @@ least_text places = decimal_format_text (lowest true 64) places
 abbrev pub greatest_text : ℕ → List ℕ
 greatest_text places = decimal_format_text (greatest true 64) places
 
--- what a format holds
+-- the range that a format holds
 abbrev pub holds_text : ℕ → List ℕ
 holds_text places = name_text places ++ (codes " holds " ++ (least_text places
     ++ (codes " to " ++ greatest_text places)))
 
--- a number that was reached
+-- the number that was reached
 abbrev pub reached_text : Number → ℕ → List ℕ
 reached_text number places = if number.has_high_bits then codes "a number of more than 64 bits"
     else decimal_text number.negative number.low places
 
--- text says the number that was reached, and what the format holds that it did not fit
+-- the text gives the number that was reached, and the range of the format that it did not fit
 pub record ExplainsOverflow (mode : ReadMode) (places : ℕ) (bytes text : List ℕ) : Type 0 where
   pub parts : Parts
   pub numeral : HasNumeral Dec bytes parts

@@ -1,2 +1,2 @@
--- What the laws of rules need.
+-- Lemmas for the laws of rules.
 pub mod ReplyLemmas

@@ -1,4 +1,4 @@
--- The amount that a line says.
+-- The amount on a line.
 use Rattle.std.specs.Prelude.{◌≡◌, ◌⊎◌, ◌↔◌, ℕ, ℤ, Bool, true, false, IsTrue, List}
 use Rattle.fixed_bits.specs.Formats.{FormatParts}
 use Rattle.fixed_bits.specs.Images.{IsImage, IsOutOfRangeBy}
@@ -20,13 +20,13 @@ use Rattle.fixed_amounts.specs.declared.settings.AmountSettings.{AmountSettings}
 use Rattle.fixed_amounts.specs.declared.settings.AmountSpelling.{AmountSpelling}
 use Rattle.fixed_amounts.specs.declared.settings.AmountSpelling.TheVariants.{Numeral, Units}
 
--- the units of each decimal format are the numbers of this format: 64 bits with a sign
+-- the units of every decimal format are numbers of this format: 64 bits with a sign
 abbrev pub words : FormatParts
 words = record { signed = true; width = 64; frac = 0 }
 
 -- ---- a decimal
--- bytes are a decimal numeral, units are the image of its read number, and overflowed says whether that is out of the
--- range that the policy leaves
+-- the bytes are a decimal numeral, `units` are the image of its rounded number, and `overflowed` says whether that
+-- number is out of the range that the policy leaves
 pub record IsReadAs (mode : ReadMode) (bytes : List ℕ) (places : ℕ) (policy : Policy) (units : ℤ)
     (overflowed : Bool) : Type 0 where
   pub parts : Parts
@@ -36,7 +36,7 @@ pub record IsReadAs (mode : ReadMode) (bytes : List ℕ) (places : ℕ) (policy 
   pub image : IsImage policy true 64 number units
   pub flag : IsTrue overflowed ↔ IsOutOfRangeBy policy true 64 number
 
--- the read number of bytes is out of range
+-- the bytes are a decimal numeral whose rounded number is out of range
 pub record IsReadOut (mode : ReadMode) (bytes : List ℕ) (places : ℕ) : Type 0 where
   pub parts : Parts
   pub numeral : HasNumeral Dec bytes parts
@@ -44,18 +44,19 @@ pub record IsReadOut (mode : ReadMode) (bytes : List ℕ) (places : ℕ) : Type 
   pub read : IsReadDecimal mode parts places number
   pub out : IsOutOfRange true 64 number
 
--- kind says why there are no units: bytes are no decimal numeral, or under Checked the read number is out of range
+-- `kind` says why there are no units: the bytes are not a decimal numeral or, under `Checked`, the rounded number is
+-- out of range
 abbrev pub IsUnread : ReadMode → List ℕ → ℕ → Policy → ParseErrorKind → Type 0
 IsUnread mode bytes places policy kind = HasCause Dec bytes kind
     ⊎ ((kind ≡ Overflow) × (policy ≡ Checked) × IsReadOut mode bytes places)
 
 -- ---- a line
--- these units, and whether what was read was out of range
+-- the line has these units, and `overflowed` says whether its number was out of range
 abbrev pub IsAmount : AmountSpelling → AmountSettings → List ℕ → ℤ → Bool → Type 0
 IsAmount Numeral s bytes units overflowed = IsReadAs s.mode bytes s.format s.policy units overflowed
 IsAmount Units s bytes units overflowed = IsWord Dec words bytes units × (overflowed ≡ false)
 
--- none, and this message says why
+-- the line has no units, and this message says why
 abbrev pub IsNoAmount : AmountSpelling → AmountSettings → List ℕ → List ℕ → Type 0
 IsNoAmount Numeral s bytes message = (kind : ParseErrorKind) × IsUnread s.mode bytes s.format s.policy kind
     × (message ≡ message_of kind)

@@ -1,4 +1,4 @@
--- What is written for a line that says an amount.
+-- The reply to a line with an amount.
 use Rattle.std.specs.Prelude.{◌≡◌, ◌⊎◌, ℕ, ℤ, Bool, false, List}
 use Rattle.std.specs.Fmt.{signed_decimal}
 use Rattle.fixed_bits.specs.Images.{wrap_to_unsigned}
@@ -23,7 +23,7 @@ abbrev pub fault_text : AmountFault → List ℕ
 fault_text TooLong = respell.fault_message LineTooLong
 fault_text (NoUnits fault) = show.fault_message fault
 
--- the units as a word of 64 bits, in two's complement
+-- the units as a register word of 64 bits, in two's complement
 abbrev pub unit_word : ℤ → ℕ
 unit_word units = wrap_to_unsigned 64 units
 
@@ -35,19 +35,19 @@ printed Hex places units overflowed = hex_text 64 (unit_word units)
 printed HexDigits places units overflowed = last_digits 16 false 16 (unit_word units)
 printed All places units overflowed = (respelled_answer (decimal_format_text units places) units overflowed).text
 
--- the line says no amount
+-- the line has no amount, and the reply says why
 pub record IsRefusal (s : AmountSettings) (bytes : List ℕ) (reply : AnswerText) : Type 0 where
   pub message : List ℕ
   pub none : IsNoAmount s.spelling s bytes message
   pub reply_is : reply ≡ fault_answer message
 
--- it says one, and the part is written
+-- the line has an amount, and the reply is its requested part
 pub record IsPrinted (s : AmountSettings) (bytes : List ℕ) (reply : AnswerText) : Type 0 where
   pub units : ℤ
   pub overflowed : Bool
   pub amount : IsAmount s.spelling s bytes units overflowed
   pub reply_is : reply ≡ record { text = printed s.print s.format units overflowed; fault = false }
 
--- the reply to a numeral, or to a count of units
+-- the reply to a numeral or to a count of units
 abbrev pub IsReply : AmountSettings → List ℕ → AnswerText → Type 0
 IsReply s bytes reply = IsRefusal s bytes reply ⊎ IsPrinted s bytes reply

@@ -1,5 +1,4 @@
-//! What more there is to say of a numeral whose number is out of range. A number of more than 64 bits is not written
-//! out.
+//! Explains why the number of a numeral is out of range. A number of more than 64 bits is not written out.
 
 ghost use Rattle.std.specs.Prelude.{◌≡◌, ◌+◌, ◌≤◌, ◌++◌, [], length};
 ghost use Rattle.fixed_amounts.specs.Explained.{ExplainsOverflow, greatest_text, holds_text, least_text, reached_text};
@@ -16,7 +15,7 @@ use fixed_write::push_integer;
 use std::sync::ledger::Ledger;
 use text_buffer::TextBuffer;
 
-/// How many bytes an explanation has at most.
+/// The length of the longest explanation, in bytes.
 pub const MAX_OVERFLOW: usize = 192;
 
 /// Appends the name of a decimal format.
@@ -47,7 +46,7 @@ pub(crate) fn push_greatest<const N: usize>(out: &mut TextBuffer<N>, format: Dec
     push_decimal_format(out, i64::MAX, format);
 }
 
-/// Appends what a format holds.
+/// Appends the range of a format.
 fn push_range(out: &mut TextBuffer<MAX_OVERFLOW>, format: DecimalFormat)
     requires room { length out.old + 115 ≤ 192 }
     ensures appended { out.new ≡ out.old ++ holds_text format }
@@ -59,7 +58,7 @@ fn push_range(out: &mut TextBuffer<MAX_OVERFLOW>, format: DecimalFormat)
     push_greatest(out, format);
 }
 
-/// Appends a number that was reached.
+/// Appends the number that was reached.
 fn push_reached(out: &mut TextBuffer<MAX_OVERFLOW>, number: Number, format: DecimalFormat)
     requires room { length out.old + 41 ≤ 192 }
     ensures appended { out.new ≡ out.old ++ reached_text number format }
@@ -72,8 +71,8 @@ fn push_reached(out: &mut TextBuffer<MAX_OVERFLOW>, number: Number, format: Deci
     }
 }
 
-/// What more there is to say of a numeral that is refused as an overflow: the number that was reached, and what the
-/// format holds. Nothing of other bytes.
+/// Explains why a numeral is refused as an overflow: the number that was reached, and the range of the format. Empty
+/// for other bytes.
 pub fn overflow_explanation<L: Ledger>(
     bytes: &[u8],
     format: DecimalFormat,

@@ -1,4 +1,4 @@
-//! Why a line that should say an amount is refused, beside the faults of numerals.
+//! Why a line is refused as an amount, besides the faults of numerals.
 
 ghost use Rattle.fixed_amounts.specs.Reply.{fault_text};
 
@@ -10,7 +10,7 @@ use fixed_show::WordFault;
 pub enum AmountFault {
     /// It has more than 1,048,576 bytes.
     TooLong,
-    /// It is no count of units.
+    /// It is not a count of units.
     NoUnits(WordFault),
 }
 

@@ -1,11 +1,12 @@
-//! Amounts: numbers of decimal formats, such as money in cents, and what is written for a line that says one.
+//! Amounts: numbers of decimal formats, such as money in cents, and the replies to lines with amounts.
 //!
-//! `name` knows the names of the formats, `settings` says how a line is read and what is written of it, `reading` reads
-//! it, `fault` has the reasons for which it is refused, `reply` appends the reply, and `explain` says more of an
-//! overflow.
+//! `name` knows the names of the formats, `settings` says how a line is read and what is written for it, `reading`
+//! reads it, `fault` has the reasons to refuse it, `reply` appends the reply, `explain` explains an overflow, and
+//! `facts` has the facts of an amount and of a format.
 #![tactic(auto)]
 
 mod explain;
+mod facts;
 mod fault;
 pub mod laws;
 mod name;
@@ -14,8 +15,11 @@ mod reply;
 mod settings;
 
 pub use explain::{MAX_OVERFLOW, overflow_explanation};
+pub use facts::{
+    AmountQuestion, amount_block, amount_object, decimal_format_block, decimal_format_object,
+};
 pub use fault::AmountFault;
 pub use name::decimal_format_named;
-pub use reading::{Amount, AmountRefusal, read_amount};
-pub use reply::push_reply;
+pub use reading::{Amount, AmountRefusal, read_amount, read_decimal};
+pub use reply::{push_part, push_reply};
 pub use settings::{AmountPrint, AmountSettings, AmountSpelling};

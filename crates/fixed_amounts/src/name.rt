@@ -6,7 +6,7 @@ ghost use Rattle.fixed_amounts.specs.Names.{IsDecimalName};
 use fixed_decimal::DecimalFormat;
 use fixed_respell::number_word;
 
-/// The decimal format with as many places as some bytes say.
+/// Returns the decimal format with the places that some bytes give.
 fn format_of_places(digits: &[u8]) -> Option<DecimalFormat>
     ensures { MatchOption result ((n : ℕ) → n ≤ 18 → ¬ (digits.now ≡ decimal n))
         (λ n. (n ≤ 18) × (digits.now ≡ decimal n)) }
@@ -17,7 +17,7 @@ fn format_of_places(digits: &[u8]) -> Option<DecimalFormat>
     }
 }
 
-/// The decimal format that a word names.
+/// Returns the decimal format that a word names.
 pub fn decimal_format_named(word: &[u8]) -> Option<DecimalFormat>
     ensures { MatchOption result ((n : ℕ) → ¬ IsDecimalName word.now n) (λ n. IsDecimalName word.now n) }
 {

@@ -1,4 +1,4 @@
-//! Reading the amount that a line says.
+//! Reading the amount of a line.
 
 ghost use Rattle.std.specs.Prelude.{◌≡◌, ◌+◌, ◌*◌, ◌≤◌, IfErr, IfOk, length, MatchResult};
 ghost use Rattle.fixed_amounts.specs.Reading.{IsAmount, IsNoAmount, IsReadAs, IsUnread, words};
@@ -27,12 +27,16 @@ pub type AmountRefusal = Refusal<AmountFault>;
 pub struct Amount {
     /// The count of units.
     pub units: i64,
-    /// Whether the number that was read is out of the range that the policy leaves.
+    /// Whether the read number is out of the policy's range.
     pub overflowed: bool,
 }
 
 /// Reads a decimal numeral into a decimal format.
-fn read_decimal<L: Ledger>(
+///
+/// # Errors
+///
+/// Refuses other bytes with the kind of their cause, and under `Checked` a number out of range as `Overflow`.
+pub fn read_decimal<L: Ledger>(
     bytes: &[u8],
     format: DecimalFormat,
     policy: Policy,
@@ -56,8 +60,8 @@ fn read_decimal<L: Ledger>(
     }
 }
 
-/// The count of units that a word is: a number with a sign, or a word of 64 bits in two's complement.
-fn read_units(word: &[u8]) -> Result<i64, WordFault>
+/// Reads a word as a count of units: a number with a sign, or a word of 64 bits in two's complement.
+pub(crate) fn read_units(word: &[u8]) -> Result<i64, WordFault>
     ensures { MatchResult result (λ units. IsWord RadixOf.Dec words word.now units)
         (λ fault. HasWordFault RadixOf.Dec words word.now fault) }
 {
@@ -67,12 +71,12 @@ fn read_units(word: &[u8]) -> Result<i64, WordFault>
     }
 }
 
-/// The amount that bytes say.
+/// Reads bytes as an amount.
 ///
 /// # Errors
 ///
-/// A numeral is refused with the kind of its cause, and under `Checked` as `Overflow` if its number is out of range; a
-/// count of units for its fault.
+/// Refuses a numeral with the kind of its cause, and under `Checked` as `Overflow` if its number is out of range;
+/// refuses a count of units for its fault.
 pub fn read_amount<L: Ledger>(
     settings: &AmountSettings,
     bytes: &[u8],

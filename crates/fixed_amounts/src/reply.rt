@@ -1,4 +1,4 @@
-//! What is written for a line that says an amount.
+//! The replies to lines with amounts.
 
 ghost use Rattle.std.specs.Prelude.{◌≡◌, ◌+◌, ◌*◌, ◌≤◌, ◌++◌, false, length};
 ghost use Rattle.fixed_amounts.specs.Reply.{IsReply, fault_text, printed, unit_word};
@@ -21,7 +21,7 @@ use line_engine::MAX_ANSWER;
 use std::sync::ledger::Ledger;
 use text_buffer::TextBuffer;
 
-/// The word of 64 bits of a count of units.
+/// Returns the word of 64 bits for a count of units.
 fn word_of(units: i64) -> u64
     ensures { result ≡ unit_word units }
 {
@@ -39,7 +39,7 @@ fn push_digits<const N: usize>(out: &mut TextBuffer<N>, units: i64)
 
 /// Appends the word of a count of units in hexadecimal, after `0x`.
 #[tactic(auto, unfolding(fixed_show::specs::Blocks::hex_text))]
-fn push_hex<const N: usize>(out: &mut TextBuffer<N>, units: i64)
+pub(crate) fn push_hex<const N: usize>(out: &mut TextBuffer<N>, units: i64)
     requires room { length out.old + 18 ≤ N }
     ensures appended { out.new ≡ out.old ++ hex_text 64 (unit_word units) }
     ensures short { length out.new ≤ length out.old + 18 }
@@ -61,8 +61,8 @@ fn push_all<const N: usize>(out: &mut TextBuffer<N>, amount: &Amount, format: De
     push_verdict(out, amount.overflowed);
 }
 
-/// Appends the part of an amount that is to be written.
-pub(crate) fn push_part<const N: usize>(
+/// Appends the requested part of an amount, at most 81 bytes.
+pub fn push_part<const N: usize>(
     out: &mut TextBuffer<N>,
     print: AmountPrint,
     amount: &Amount,
@@ -81,7 +81,7 @@ pub(crate) fn push_part<const N: usize>(
     }
 }
 
-/// Appends the reply to a numeral or to a count of units, without a newline; or appends nothing and returns why it is
+/// Appends the reply to a numeral or a count of units, without a newline, or appends nothing and returns why it is
 /// refused.
 pub fn push_reply<const N: usize, L: Ledger>(
     settings: &AmountSettings,

@@ -1,9 +1,9 @@
-//! How a line says an amount, and what of it is written.
+//! How a line gives an amount, and what is written of it.
 
 use fixed_bits::{Policy, ReadMode};
 use fixed_decimal::DecimalFormat;
 
-/// How a line says an amount.
+/// How a line gives an amount.
 #[derive(Clone, Copy, Debug, PartialEq, Eq)]
 pub enum AmountSpelling {
     /// As a decimal numeral.
@@ -12,7 +12,7 @@ pub enum AmountSpelling {
     Units,
 }
 
-/// What of an amount is written.
+/// What is written of an amount.
 #[derive(Clone, Copy, Debug, PartialEq, Eq)]
 pub enum AmountPrint {
     /// Its text, with exactly the places of the format.
@@ -21,23 +21,23 @@ pub enum AmountPrint {
     Units,
     /// The count as a word of 64 bits in hexadecimal, after `0x`.
     Hex,
-    /// The same without `0x`.
+    /// The count in hexadecimal without `0x`.
     HexDigits,
     /// Text, count, and whether the number was out of range.
     All,
 }
 
-/// How lines that say amounts are answered.
+/// How lines with amounts are answered.
 #[derive(Clone, Copy, Debug, PartialEq, Eq)]
 pub struct AmountSettings {
-    /// How a line says an amount.
+    /// How a line gives an amount.
     pub spelling: AmountSpelling,
     /// The decimal format that it is read into.
     pub format: DecimalFormat,
-    /// What is done with a number that is out of range.
+    /// What happens to a number that is out of range.
     pub policy: Policy,
     /// How a numeral is rounded.
     pub mode: ReadMode,
-    /// What of an amount is written.
+    /// What is written of an amount.
     pub print: AmountPrint,
 }

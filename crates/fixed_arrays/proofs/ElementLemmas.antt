@@ -1,4 +1,4 @@
--- Elements of a list, one line after the other.
+-- Elements of an array, read line by line.
 use Rattle.std.proofs.Common.{◌≡◌, ◌∙◌, ◌+◌, ◌<◌, ◌≤◌, ℕ, zero, suc, ℤ, List, [], ◌∷◌, ◌++◌, length, refl, sym, ap, subst, arith, append-nil, append_assoc, length-append, inl, inr}
 use Rattle.fixed_numeral.specs.declared.error.ParseErrorKind.{ParseErrorKind}
 use Rattle.line_engine.specs.Lines.{lines}
@@ -40,7 +40,7 @@ refused_after i n (l ∷ ls) more (b ∷ bs) line kind are refused =
     let next : i + 1 + length ls ≡ i + length (l ∷ ls) = omega arith in
     inr (b, are.0, subst (λ p. RefusedFrom (i + 1) n (ls ++ line ∷ more) p kind) next (refused_after (i + 1) n ls more bs line kind are.1 refused))
 
--- ---- an input
+-- ---- the lines of an input
 pub read_none : (r : ArrayRule) (input : List ℕ) (e : Elements) → e.text.items ≡ [] → e.count ≡ 0 → HasReadTo r input input e
 read_none r input e text count = record { some = []; cut = refl; has = record { numbers = []; elements = tt; text = text; count = count } }
 

@@ -1,4 +1,4 @@
--- Formats of lines, constants of one format, and the lines of an array of them.
+-- The formats of lines, constants that share one format, and their lines in an array.
 use Rattle.std.proofs.Common.{◌≡◌, ◌∙◌, ◌⊎◌, ◌↔◌, ◌+◌, ◌≤◌, ◌<◌, ℕ, zero, suc, eqb, List, [], ◌∷◌, ◌++◌, Bool, true, false, IsTrue, Option, Some, None, drop, slice_get, refl, sym, ap, subst, arith, append-nil, append_assoc, inl, inr}
 use Rattle.std.specs.Prelude.{MatchOption}
 use Rattle.std.proofs.lemmas.Bool.{false≢true}
@@ -17,7 +17,7 @@ use Rattle.fixed_arrays.specs.Table.{element_line, literal_lines}
 use Rattle.fixed_arrays.specs.declared.fault.LiteralsFault.TheVariants.{Empty, OtherFormat, Refused}
 use Rattle.fixed_arrays.specs.declared.text.Frame.{Frame}
 
--- ---- two formats are one, or they are not
+-- ---- formats are equal or different
 abbrev Decided : FormatParts → FormatParts → Type 0
 Decided f g = (f ≡ g) ⊎ (f ≡ g → ⊥)
 
@@ -49,7 +49,7 @@ decided_parts false true v w k l = inr (λ h. false≢true (ap (λ f. f.signed) 
 pub decided : (f g : FormatParts) → Decided f g
 decided f g = decided_parts f.signed g.signed f.width g.width f.frac g.frac
 
--- ---- a line
+-- ---- one line
 pub format_by : (line : List ℕ) (x : Fields line) (r : Option FormatParts) → MatchOption r ((f : FormatParts) → IsFormatWord x.format f → ⊥) (λ f. IsFormatWord x.format f) → MatchOption r ((f : FormatParts) → HasFormat line f → ⊥) (λ f. HasFormat line f)
 format_by line x None none = λ f h. let W : List ℕ → Type 0 = λ w. IsFormatWord w f in none f (subst W (fields_one line h.fields x).format h.word)
 format_by line x (Some f) word = record { fields = x; word = word }
@@ -60,7 +60,7 @@ other_by line f g b has is = (λ holds. (g, has, is.0 holds), λ h. is.1 (λ e. 
 pub no_other : (line : List ℕ) (f : FormatParts) (b : Bool) → ((g : FormatParts) → HasFormat line g → ⊥) → b ≡ false → IsTrue b ↔ HasOther f line
 no_other line f b none fails = (λ holds. absurd (false≢true (sym fails ∙ holds)), λ h. absurd (none h.0 h.1))
 
--- ---- the lines that were searched
+-- ---- a search among the lines
 pub record FirstIn (text rest : List ℕ) : Type 0 where
   pub there : (f : FormatParts) → HasFirstFormat (lines rest) f → HasFirstFormat (lines text) f
   pub back : (f : FormatParts) → HasFirstFormat (lines text) f → HasFirstFormat (lines rest) f
@@ -69,39 +69,7 @@ pub record OtherIn (format : FormatParts) (text rest : List ℕ) (number : ℕ) 
   pub there : (p : ℕ) → OtherFrom (number + 1) format (lines rest) p → OtherFrom 1 format (lines text) p
   pub back : (p : ℕ) → OtherFrom 1 format (lines text) p → OtherFrom (number + 1) format (lines rest) p
 
-pub first_later : (text rest after line : List ℕ) → lines rest ≡ line ∷ lines after → ((g : FormatParts) → HasFormat line g → ⊥) → FirstIn text rest → FirstIn text after
-first_later text rest after line cut none h = record {
-  there = λ f x. h.there f (subst (λ l. HasFirstFormat l f) (sym cut) (inr (none, x)));
-  back = λ f x. behind f (subst (λ l. HasFirstFormat l f) cut (h.back f x));
-}
-  where
-    behind : (f : FormatParts) → HasFirstFormat (line ∷ lines after) f → HasFirstFormat (lines after) f
-    behind f (inl x) = absurd (none f x)
-    behind f (inr x) = x.1
-
-pub first_here : (text rest after line : List ℕ) (f : FormatParts) → lines rest ≡ line ∷ lines after → HasFormat line f → FirstIn text rest → HasFirstFormat (lines text) f
-first_here text rest after line f cut has h = h.there f (subst (λ l. HasFirstFormat l f) (sym cut) (inl has))
-
-pub first_never : (text rest : List ℕ) (f : FormatParts) → rest ≡ [] → FirstIn text rest → HasFirstFormat (lines text) f → ⊥
-first_never text rest f none h x = subst (λ r. HasFirstFormat (lines r) f) none (h.back f x)
-
-pub other_later : (format : FormatParts) (text rest after line : List ℕ) (n : ℕ) → lines rest ≡ line ∷ lines after → (HasOther format line → ⊥) → OtherIn format text rest n → OtherIn format text after (n + 1)
-other_later format text rest after line n cut same h = record {
-  there = λ p x. h.there p (subst (λ l. OtherFrom (n + 1) format l p) (sym cut) (inr (same, x)));
-  back = λ p x. behind p (subst (λ l. OtherFrom (n + 1) format l p) cut (h.back p x));
-}
-  where
-    behind : (p : ℕ) → OtherFrom (n + 1) format (line ∷ lines after) p → OtherFrom (n + 1 + 1) format (lines after) p
-    behind p (inl x) = absurd (same x.0)
-    behind p (inr x) = x.1
-
-pub other_here : (format : FormatParts) (text rest after line : List ℕ) (n : ℕ) → lines rest ≡ line ∷ lines after → HasOther format line → OtherIn format text rest n → OtherFrom 1 format (lines text) (n + 1)
-other_here format text rest after line n cut other h = h.there (n + 1) (subst (λ l. OtherFrom (n + 1) format l (n + 1)) (sym cut) (inl (other, refl)))
-
-pub other_never : (format : FormatParts) (text rest : List ℕ) (n p : ℕ) → rest ≡ [] → OtherIn format text rest n → OtherFrom 1 format (lines text) p → ⊥
-other_never format text rest n p none h x = subst (λ r. OtherFrom (n + 1) format (lines r) p) none (h.back p x)
-
--- ---- a text
+-- ---- the lines of a text
 no_literal : (before all : List (List ℕ)) (t : List ConstantParts) → Declare before all t → ((f : FormatParts) → HasFirstFormat all f → ⊥) → t ≡ []
 no_literal before [] t d none = d
 no_literal before (line ∷ more) t (inl d) none = no_literal (before ++ line ∷ []) more t d.1 (λ f x. none f (inr (λ g h. h.fields.spoken d.0, x)))
@@ -141,9 +109,6 @@ literals_are text t f are first none =
 pub is_empty : (text : List ℕ) (t : List ConstantParts) → IsConstantsOf text t → ((f : FormatParts) → HasFirstFormat (lines text) f → ⊥) → HasLiteralsFault text Empty
 is_empty text t are none = subst (λ c. IsConstantsOf text c) (no_literal [] (lines text) t are none) are
 
-pub fault_alone : (text : List ℕ) (p : ℕ) (fault : ConstantFault) → IsFaultOf text p fault → ((f : FormatParts) → HasFirstFormat (lines text) f → ⊥) → HasLiteralsFault text (Refused p fault)
-fault_alone text p fault is none = (is, λ f q x. absurd (none f x.first))
-
 pub other_alone : (text : List ℕ) (t : List ConstantParts) (f : FormatParts) (p : ℕ) → IsConstantsOf text t → HasFirstFormat (lines text) f → OtherFrom 1 f (lines text) p → HasLiteralsFault text (OtherFormat p f)
 other_alone text t f p are first other = (record { first = first; other = other }, λ q fault is. absurd (not_both [] (lines text) t q fault are is))
 
@@ -156,7 +121,7 @@ other_earlier text f p q fault is first other early = (record { first = first; o
 pub fault_earlier : (text : List ℕ) (f : FormatParts) (p q : ℕ) (fault : ConstantFault) → IsFaultOf text q fault → HasFirstFormat (lines text) f → OtherFrom 1 f (lines text) p → q ≤ p → HasLiteralsFault text (Refused q fault)
 fault_earlier text f p q fault is first other early = (is, λ g r x. let same : r ≡ p = (other_one text g f r p x (record { first = first; other = other })).line in omega (arith, early, same))
 
--- ---- the lines of an array
+-- ---- the lines of the array
 drop_some : (xs : List ConstantParts) (i : ℕ) (x : ConstantParts) → slice_get xs i ≡ Some x → drop i xs ≡ x ∷ drop (suc i) xs
 drop_some [] i x e = absurd cc
 drop_some (y ∷ ys) zero x e = let same : y ≡ x = cc in ap (λ z. z ∷ ys) same
@@ -180,7 +145,7 @@ lines_more r all i c start old new at before is =
 pub lines_all : (r : Frame) (all : List ConstantParts) (i : ℕ) (start text : List ℕ) → slice_get all i ≡ None → start ++ literal_lines r 0 all ≡ text ++ literal_lines r i (drop i all) → text ≡ start ++ literal_lines r 0 all
 lines_all r all i start text at before = sym (before ∙ (ap (λ t. text ++ literal_lines r i t) (drop_none all i at) ∙ append-nil text))
 
--- ---- the line of a fault
+-- ---- the text of a fault
 pub five_pieces : (a n b f l t u v w x : List ℕ) → t ≡ a → u ≡ t ++ n → v ≡ u ++ b → w ≡ v ++ f → x ≡ w ++ l → x ≡ a ++ (n ++ (b ++ (f ++ l)))
 five_pieces a n b f l t u v w x p q r s e =
     e ∙ (ap (λ i. i ++ l) s ∙ (append_assoc v f l ∙ (ap (λ i. i ++ (f ++ l)) r ∙ (append_assoc u b (f ++ l) ∙ (ap (λ i. i ++ (b ++ (f ++ l))) q ∙ (append_assoc t n (b ++ (f ++ l)) ∙ ap (λ i. i ++ (n ++ (b ++ (f ++ l)))) p))))))

@@ -1,4 +1,4 @@
--- Templates and their slots, byte by byte.
+-- Templates, filled byte by byte.
 use Rattle.std.proofs.Common.{◌≡◌, ◌∙◌, ◌-◌, ◌/◌, ◌%◌, ◌<◌, ◌≤◌, ◌==◌, ℕ, zero, suc, List, [], ◌∷◌, ◌++◌, Bool, true, false, nat_lt, length, drop, refl, sym, ap, subst, arith, append-nil, append_assoc}
 use Rattle.std.specs.Fmt.{decimal, digit_glyph}
 use Rattle.std.proofs.lemmas.Bool.Decides.{nat_tests}
@@ -17,7 +17,7 @@ digits_more base old mid new k w h e f = f ∙ ap (λ t. t ++ digit_glyph false 
 pub digits_none : (base : ℕ) (old : List ℕ) (k w : ℕ) → k ≡ 0 → old ≡ old ++ last_digits base false k w
 digits_none base old k w e = sym (ap (λ t. old ++ last_digits base false t w) e ∙ ap (λ t. old ++ t) (last_digits_none base false w) ∙ append-nil old)
 
--- ---- a template
+-- ---- the bytes of a template
 pub fill_none : (is_slot : Bool) (v : FillingParts) → fill_from is_slot v [] ≡ []
 unfolding fill_from
 fill_none true v = refl
@@ -69,7 +69,7 @@ pub filled_all : (v : FillingParts) (template start text : List ℕ) (is_slot : 
 filled_all v template start text is_slot i past before =
     sym (before ∙ (ap (λ t. text ++ fill_from is_slot v t) (drop_past template i past) ∙ (ap (λ t. text ++ t) (fill_none is_slot v) ∙ append-nil text)))
 
--- ---- what a slot stands for
+-- ---- the text for a slot
 pub width_64 : (w : ℕ) → 32 < w → element_width w ≡ 64
 unfolding element_width
 width_64 w h = let a : nat_lt 32 w ≡ true = grind (arith, nat_tests) in rw a refl
@@ -138,9 +138,13 @@ pub is_most : (v : FillingParts) (key : ℕ) → key ≡ 109 → count_slot v ke
 unfolding count_slot
 is_most v key e = let P : ℕ → Type 0 = λ k. count_slot v k ≡ decimal (v.format.width - 1) in let at : P 109 = refl in subst P (sym e) at
 
-pub is_number : (v : FillingParts) (key : ℕ) → (key ≡ 99 → ⊥) → (key ≡ 108 → ⊥) → (key ≡ 105 → ⊥) → (key ≡ 119 → ⊥) → (key ≡ 98 → ⊥) → (key ≡ 109 → ⊥) → count_slot v key ≡ number_slot v key
+pub is_frac : (v : FillingParts) (key : ℕ) → key ≡ 112 → count_slot v key ≡ decimal v.format.frac
 unfolding count_slot
-is_number v key n0 n1 n2 n3 n4 n5 = rw (not_equal key 99 n0, not_equal key 108 n1, not_equal key 105 n2, not_equal key 119 n3, not_equal key 98 n4, not_equal key 109 n5) refl
+is_frac v key e = let P : ℕ → Type 0 = λ k. count_slot v k ≡ decimal v.format.frac in let at : P 112 = refl in subst P (sym e) at
+
+pub is_number : (v : FillingParts) (key : ℕ) → (key ≡ 99 → ⊥) → (key ≡ 108 → ⊥) → (key ≡ 105 → ⊥) → (key ≡ 119 → ⊥) → (key ≡ 98 → ⊥) → (key ≡ 109 → ⊥) → (key ≡ 112 → ⊥) → count_slot v key ≡ number_slot v key
+unfolding count_slot
+is_number v key n0 n1 n2 n3 n4 n5 n6 = rw (not_equal key 99 n0, not_equal key 108 n1, not_equal key 105 n2, not_equal key 119 n3, not_equal key 98 n4, not_equal key 109 n5, not_equal key 112 n6) refl
 
 pub is_name : (v : FillingParts) (key : ℕ) → key ≡ 110 → slot v key ≡ v.name
 unfolding slot
@@ -177,12 +181,3 @@ is_label v key e = let P : ℕ → Type 0 = λ k. slot v k ≡ label_text v.labe
 pub is_counted : (v : FillingParts) (key : ℕ) → (key ≡ 110 → ⊥) → (key ≡ 103 → ⊥) → (key ≡ 102 → ⊥) → (key ≡ 117 → ⊥) → (key ≡ 114 → ⊥) → (key ≡ 113 → ⊥) → (key ≡ 44 → ⊥) → (key ≡ 107 → ⊥) → slot v key ≡ count_slot v key
 unfolding slot
 is_counted v key n0 n1 n2 n3 n4 n5 n6 n7 = rw (not_equal key 110 n0, not_equal key 103 n1, not_equal key 102 n2, not_equal key 117 n3, not_equal key 114 n4, not_equal key 113 n5, not_equal key 44 n6, not_equal key 107 n7) refl
-
--- ---- the name of a number
-pub label_none : (label : List ℕ) → length label ≡ 0 → [] ≡ label_text label
-label_none [] e = refl
-label_none (b ∷ bs) e = absurd (omega (arith, e))
-
-pub label_some : (label : List ℕ) → 0 < length label → label ++ (44 ∷ 32 ∷ []) ≡ label_text label
-label_some [] h = absurd (omega (arith, h))
-label_some (b ∷ bs) h = refl

@@ -1,4 +1,4 @@
--- What an input, a list of numerals, is answered.
+-- The answer to an input that is a list of numerals.
 use Rattle.std.specs.Prelude.{◌≡◌, ◌⊎◌, ◌+◌, ◌-◌, ◌==◌, ℕ, ℤ, Bool, true, false, List, [], ◌∷◌, ◌++◌, codes}
 use Rattle.std.specs.Prelude.{decimal, get_or, if◌then◌else◌, length, take}
 use Rattle.fixed_bits.specs.Formats.{IsFormat}
@@ -23,37 +23,37 @@ pub record IsElement (n : Numerals) (line : List ℕ) (bits : ℤ) : Type 0 wher
   pub overflowed : Bool
   pub read : IsReadAs n.mode n.radix (without_return line) n.format n.policy bits overflowed
 
--- the line is refused, and kind says why
+-- the line is refused, and `kind` says why
 abbrev pub IsRefusedElement : Numerals → List ℕ → ParseErrorKind → Type 0
 IsRefusedElement n line kind = IsUnread n.mode n.radix (without_return line) n.format n.policy kind
 
--- these are the numbers of these lines, one each and in order
+-- these are the numbers of these lines, one for each and in order
 abbrev pub AreElements : Numerals → List (List ℕ) → List ℤ → Type 0
 AreElements n [] [] = Unit {0}
 AreElements n [] (bits ∷ numbers) = ⊥
 AreElements n (line ∷ lines) [] = ⊥
 AreElements n (line ∷ lines) (bits ∷ numbers) = IsElement n line bits × AreElements n lines numbers
 
--- the first of these lines that is refused is line p, where they are numbered from k on; kind says why
+-- the first refused line of these lines, numbered from `k` on, is line `p`, and `kind` says why
 abbrev pub RefusedFrom : ℕ → Numerals → List (List ℕ) → ℕ → ParseErrorKind → Type 0
 RefusedFrom k n [] p kind = ⊥
 RefusedFrom k n (line ∷ lines) p kind = (IsRefusedElement n line kind × (p ≡ k))
     ⊎ ((bits : ℤ) × IsElement n line bits × RefusedFrom (k + 1) n lines p kind)
 
--- why a list is no array
+-- why a list is not an array
 abbrev pub HasFault : Numerals → List (List ℕ) → ArrayFault → Type 0
 HasFault n all Empty = all ≡ []
 HasFault n all (Refused place kind) = RefusedFrom 1 n all place kind
 HasFault n all NoMemory = ⊥
 
--- what is written for a fault
+-- the line written for a fault
 abbrev pub fault_line : ArrayFault → List ℕ
 fault_line Empty = codes "error: line 1: no numeral\n"
 fault_line (Refused place kind) = codes "error: line "
     ++ (decimal place ++ (codes ": " ++ (message_of kind ++ 10 ∷ [])))
 fault_line NoMemory = []
 
--- what a rule has a list written as
+-- the frame in which a rule writes a list
 abbrev pub frame_of : ArrayRule → Frame
 frame_of r = record { form = r.form; name = r.name; guard = r.guard; format = r.numerals.format }
 

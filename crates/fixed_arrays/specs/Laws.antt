@@ -1,4 +1,4 @@
--- What the laws of this crate say.
+-- The statements of this crate's laws.
 use Rattle.std.specs.Prelude.{◌≡◌, ℕ, List}
 use Rattle.line_engine.specs.AnswerText.{AnswerText}
 use Rattle.fixed_arrays.specs.Answer.{IsArrayAnswer}
@@ -17,7 +17,7 @@ abbrev pub LiteralArrayAnswerIsTheOne : Type 0
 LiteralArrayAnswerIsTheOne = (r : LiteralArrayRule) (text : List ℕ) (a b : AnswerText) → IsLiteralArrayAnswer r text a
     → IsLiteralArrayAnswer r text b → a ≡ b
 
--- and at most one first fault
+-- a file of named literals has at most one first fault
 abbrev pub LiteralsFaultIsTheOne : Type 0
 LiteralsFaultIsTheOne = (text : List ℕ) (a b : LiteralsFault) → HasLiteralsFault text a → HasLiteralsFault text b
     → a ≡ b

@@ -1,4 +1,4 @@
--- What a file of named literals is answered where it is to be one array.
+-- The answer to a file of named literals that is to be one array.
 use Rattle.std.specs.Prelude.{◌≡◌, ◌⊎◌, ◌+◌, ◌≤◌, ◌<◌, ℕ, List, [], ◌∷◌, ◌++◌, codes, decimal, true, false}
 use Rattle.fixed_bits.specs.Formats.{FormatParts}
 use Rattle.fixed_respell.specs.Words.{IsFormatWord, format_text}
@@ -14,26 +14,26 @@ use Rattle.fixed_arrays.specs.declared.literal_rule.LiteralArrayRule.{LiteralArr
 use Rattle.fixed_arrays.specs.declared.text.Frame.{Frame}
 
 -- ---- formats of lines
--- a line that is not passed over has this format: its format word names it
+-- a line that is not passed over has this format, which its format word names
 pub record HasFormat (line : List ℕ) (f : FormatParts) : Type 0 where
   pub fields : Fields line
   pub word : IsFormatWord fields.format f
 
--- the first of these lines that has a format has this one
+-- this is the format of the first of these lines that has one
 abbrev pub HasFirstFormat : List (List ℕ) → FormatParts → Type 0
 HasFirstFormat [] f = ⊥
 HasFirstFormat (line ∷ lines) f = HasFormat line f ⊎ (((g : FormatParts) → ¬ HasFormat line g) × HasFirstFormat lines f)
 
--- the line has a format, and not this one
+-- the line has a format other than `f`
 abbrev pub HasOther : FormatParts → List ℕ → Type 0
 HasOther f line = (g : FormatParts) × HasFormat line g × (¬ (g ≡ f))
 
--- the first of these lines that has another format than f is line p, where they are numbered from n on
+-- the first of these lines, numbered from `n` on, with a format other than `f` is line `p`
 abbrev pub OtherFrom : ℕ → FormatParts → List (List ℕ) → ℕ → Type 0
 OtherFrom n f [] p = ⊥
 OtherFrom n f (line ∷ lines) p = (HasOther f line × (p ≡ n)) ⊎ ((¬ HasOther f line) × OtherFrom (n + 1) f lines p)
 
--- line p of the text, from 1, is the first whose format is not f, the format of the first literal
+-- line `p` of the text, from 1, is the first whose format is not `f`, the format of the first literal
 pub record IsOtherOn (text : List ℕ) (f : FormatParts) (p : ℕ) : Type 0 where
   pub first : HasFirstFormat (lines text) f
   pub other : OtherFrom 1 f (lines text) p
@@ -44,8 +44,8 @@ AreOf f [] = Unit {0}
 AreOf f (c ∷ constants) = (c.format ≡ f) × AreOf f constants
 
 -- ---- the answer
--- why a text is no array: it has no literal; or its first fault, or the first line of another format, whichever is the
--- earlier line; on one line the fault
+-- why a text is not an array: it has no literal; or it has a first fault or a first line of another format, whichever
+-- is on the earlier line; the fault if both are on one line
 abbrev pub HasLiteralsFault : List ℕ → LiteralsFault → Type 0
 HasLiteralsFault text Empty = IsConstantsOf text []
 HasLiteralsFault text (Refused p fault) = IsFaultOf text p fault
@@ -54,7 +54,7 @@ HasLiteralsFault text (OtherFormat p f) = IsOtherOn text f p
     × ((q : ℕ) (fault : ConstantFault) → IsFaultOf text q fault → p < q)
 HasLiteralsFault text NoMemory = ⊥
 
--- what is written for it
+-- the line written for it
 abbrev pub other_format_line : ℕ → FormatParts → List ℕ
 other_format_line p f = codes "error: line "
     ++ (decimal p ++ (codes ": another format than " ++ (format_text f ++ 10 ∷ [])))
@@ -65,7 +65,7 @@ literals_fault_line (Refused p fault) = literal.fault_line p fault
 literals_fault_line (OtherFormat p f) = other_format_line p f
 literals_fault_line NoMemory = []
 
--- what a rule has numbers of a format written as
+-- the frame in which a rule writes numbers of a format
 abbrev pub frame_for : LiteralArrayRule → FormatParts → Frame
 frame_for r f = record { form = r.form; name = r.name; guard = r.guard; format = f }
 

@@ -1,4 +1,4 @@
--- Which names a list of numbers may have.
+-- The names that a list of numbers may have.
 use Rattle.std.specs.Prelude.{◌≡◌, ◌==◌, ◌&&◌, ◌⊎◌, ℕ, Bool, List, [], ◌∷◌, ◌++◌, codes, false, map, true}
 use Rattle.std.specs.Char.{is_ascii_uppercase, to_ascii_lowercase}
 use Rattle.memchr.specs.Find.{OccursAt}
@@ -8,7 +8,7 @@ use Rattle.fixed_constants.specs.declared.form.Form.TheVariants as language
 use Rattle.fixed_arrays.specs.declared.form.ArrayForm.{ArrayForm}
 use Rattle.fixed_arrays.specs.declared.form.ArrayForm.TheVariants.{C, GuardedC, Rust, Vhdl, Readmemh, Coe, Mif}
 
--- the keywords of VHDL, and the names that a list's package stands on; each between two spaces
+-- the keywords of VHDL, and the names on which a list's package depends, each between two spaces
 unfoldable pub vhdl_words : List ℕ
 vhdl_words =
     codes " abs access after alias all and architecture array assert assume assume_guarantee attribute begin" ++
@@ -21,27 +21,27 @@ vhdl_words =
     (codes " unaffected units until use variable vmode vpkg vprop vunit wait when while with xnor xor view" ++
     (codes " ieee numeric_std signed standard std std_logic_1164 unsigned work "))))))))
 
--- two underscores side by side
+-- two adjacent underscores
 abbrev pub two_underscores : List ℕ
 two_underscores = 95 ∷ 95 ∷ []
 
 abbrev pub AreApart : List ℕ → Type 0
 AreApart name = (place : ℕ) → ¬ OccursAt (95 ∷ (name ++ 95 ∷ [])) two_underscores place
 
--- a name of VHDL: no two of its underscores are side by side, none is at its beginning or its end, and the language
--- does not reserve it, in either case of letters
+-- a name of VHDL: no two of its underscores are adjacent, it neither begins nor ends with one, and the language does
+-- not reserve it, in either case of letters
 abbrev pub IsVhdlName : List ℕ → Type 0
 IsVhdlName name = IsName name × (AreApart name × (¬ IsAmong vhdl_words (map to_ascii_lowercase name)))
 
--- the names that GNU C defines beside those that C reserves, each between two spaces
+-- the names that GNU C defines besides those that C reserves, each between two spaces
 unfoldable pub gnu_words : List ℕ
 gnu_words = codes " i386 linux unix "
 
--- two underscores of the name are side by side
+-- the name has two adjacent underscores
 abbrev pub HasTwoUnderscores : List ℕ → Type 0
 HasTwoUnderscores name = (place : ℕ) × OccursAt name two_underscores place
 
--- the name begins with an underscore and a capital letter
+-- whether the name begins with an underscore and a capital letter
 abbrev pub begins_kept : List ℕ → Bool
 begins_kept [] = false
 begins_kept (first ∷ []) = false
@@ -57,10 +57,22 @@ abbrev pub IsCName : List ℕ → List ℕ → Type 0
 IsCName guard name = (IsName name × (¬ IsReserved language.C guard name))
     × ((¬ IsAmong gnu_words name) × (¬ IsKept name))
 
--- a list may have the name in a form, in a header with this guard; the files of a memory have no name
+-- the names of an array's macros in C: its name with an ending
+abbrev pub count_ending : List ℕ
+count_ending = codes "_COUNT"
+
+abbrev pub frac_ending : List ℕ
+frac_ending = codes "_FRAC"
+
+-- a name for an array of C: it and the names of its two macros are names of C
+abbrev pub IsCArrayName : List ℕ → List ℕ → Type 0
+IsCArrayName guard name = IsCName guard name
+    × (IsCName guard (name ++ count_ending) × IsCName guard (name ++ frac_ending))
+
+-- a list may have this name in a form, in a header with this guard; memory files have no name
 abbrev pub IsArrayName : ArrayForm → List ℕ → List ℕ → Type 0
-IsArrayName C guard name = IsCName guard name
-IsArrayName GuardedC guard name = IsCName guard name
+IsArrayName C guard name = IsCArrayName guard name
+IsArrayName GuardedC guard name = IsCArrayName guard name
 IsArrayName Rust guard name = IsName name × (¬ IsReserved language.Rust guard name)
 IsArrayName Vhdl guard name = IsVhdlName name
 IsArrayName Readmemh guard name = name ≡ []

@@ -1,4 +1,4 @@
--- Templates: texts with slots that stand for a list, its format and one of its numbers.
+-- Templates: texts with slots for a list, its format and one of its numbers.
 use Rattle.std.specs.Prelude.{◌-◌, ◌+◌, ◌/◌, ◌^◌, ◌==◌, ℕ, suc, ℤ, pos, negsuc, Bool, true, false}
 use Rattle.std.specs.Prelude.{List, [], ◌∷◌, ◌++◌, codes}
 use Rattle.std.specs.Prelude.{if◌then◌else◌, nat_lt}
@@ -10,12 +10,12 @@ use Rattle.fixed_respell.specs.Words.{format_text}
 use Rattle.fixed_write.specs.Texts.{last_digits, shortest_text}
 use Rattle.fixed_arrays.specs.declared.slots.Filling.{Filling}
 
--- how many bits the integer type of an element has: the fewest of 8, 16, 32 and 64 that hold a format's width
+-- the width of an element's integer type: the least of 8, 16, 32 and 64 bits that holds the format's width
 unfoldable pub element_width : ℕ → ℕ
 element_width width =
     if nat_lt 32 width then 64 else (if nat_lt 16 width then 32 else (if nat_lt 8 width then 16 else 8))
 
--- the format with as many bits
+-- the format of that width
 abbrev pub element_format : FormatParts → FormatParts
 element_format f = record { signed = f.signed; width = element_width f.width; frac = f.frac }
 
@@ -24,9 +24,9 @@ pub record FillingParts : Type 0 where
   pub name : List ℕ
   pub guard : List ℕ
   pub format : FormatParts
-  -- how many numbers the list has
+  -- the count of numbers in the list
   pub count : ℕ
-  -- the name of a number, empty where it has none; its place in the list, from 0; and its bits
+  -- the name of a number, empty if it has none; its index in the list, from 0; and its bits
   pub label : List ℕ
   pub index : ℕ
   pub bits : ℤ
@@ -43,7 +43,7 @@ parts_of v = record {
 }
 
 -- ---- what a slot stands for
--- before the names of unsigned types of C, of integer types of Rust, and of `signed` of VHDL
+-- the prefixes of unsigned types in C, of integer types in Rust, and of `signed` in VHDL
 abbrev pub c_sign : Bool → List ℕ
 c_sign true = []
 c_sign false = codes "u"
@@ -56,11 +56,11 @@ abbrev pub vhdl_sign : Bool → List ℕ
 vhdl_sign true = []
 vhdl_sign false = codes "un"
 
--- between two numbers
+-- the text between two numbers
 abbrev pub separator : ℕ → List ℕ
 separator index = if index == 0 then [] else codes ",\n"
 
--- before the value of a number that has a name
+-- the text before the value of a named number
 abbrev pub label_text : List ℕ → List ℕ
 label_text [] = []
 label_text (b ∷ bs) = (b ∷ bs) ++ codes ", "
@@ -70,14 +70,14 @@ abbrev pub word_of : ℕ → ℤ → ℕ
 word_of width (pos n) = n
 word_of width (negsuc n) = 2 ^ width - suc n
 
--- its digits: in hexadecimal one for every four bits, in binary one for each
+-- the digits of that number: one for every four bits in hexadecimal, one for each bit in binary
 abbrev pub hex_digits : ℕ → ℤ → List ℕ
 hex_digits width bits = last_digits 16 false ((width + 3) / 4) (word_of width bits)
 
 abbrev pub binary_digits : ℕ → ℤ → List ℕ
 binary_digits width bits = last_digits 2 false width (word_of width bits)
 
--- d: the number in C; x: in Rust; h: its bits in hexadecimal; z: in binary; all others: its value
+-- d: the number in C; x: in Rust; h: its bits in hexadecimal; z: in binary; any other key: its value
 unfoldable pub number_slot : FillingParts → ℕ → List ℕ
 number_slot v key =
     if key == 100 then c_number (element_format v.format) v.bits else
@@ -85,8 +85,8 @@ number_slot v key =
     (if key == 104 then hex_digits v.format.width v.bits else
     (if key == 122 then binary_digits v.format.width v.bits else shortest_text v.bits v.format.frac)))
 
--- c: how many numbers there are; l: the last of their places; i: the place of this one; w: the bits of an element's
--- type; b: those of the format; m: the place of the highest of these
+-- c: the count of numbers; l: the last index; i: the index of this number; w: the width of an element's type; b: that
+-- of the format; m: the index of the highest bit of the format; p: its fraction length
 unfoldable pub count_slot : FillingParts → ℕ → List ℕ
 count_slot v key =
     if key == 99 then decimal v.count else
@@ -94,9 +94,10 @@ count_slot v key =
     (if key == 105 then decimal v.index else
     (if key == 119 then decimal (element_width v.format.width) else
     (if key == 98 then decimal v.format.width else
-    (if key == 109 then decimal (v.format.width - 1) else number_slot v key)))))
+    (if key == 109 then decimal (v.format.width - 1) else
+    (if key == 112 then decimal v.format.frac else number_slot v key))))))
 
--- n: the list's name; g: the header's guard; f: the format; u, r, q: the signs of C, Rust and VHDL; a comma: what is
+-- n: the list's name; g: the header's guard; f: the format; u, r, q: the signs of C, Rust and VHDL; a comma: the text
 -- between two numbers; k: the name of this number
 unfoldable pub slot : FillingParts → ℕ → List ℕ
 slot v key =
@@ -110,7 +111,7 @@ slot v key =
     (if key == 107 then label_text v.label else count_slot v key)))))))
 
 -- ---- a template
--- a byte after '@' is a slot; where is_slot, the first byte is one
+-- a byte after '@' is a slot, and so is the first byte if `is_slot`
 unfoldable pub fill_from : Bool → FillingParts → List ℕ → List ℕ
 fill_from is_slot v [] = []
 fill_from true v (key ∷ more) = slot v key ++ fill_from false v more

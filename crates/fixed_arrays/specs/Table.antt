@@ -1,4 +1,4 @@
--- How a list of numbers is written: in each form an opening, the line of an element, and a closing.
+-- How a list of numbers is written: each form has an opening, a line for an element, and a closing.
 use Rattle.std.specs.Prelude.{◌+◌, ℕ, ℤ, pos, List, [], ◌∷◌, ◌++◌, codes, length}
 use Rattle.fixed_constants.specs.Constants.{ConstantParts}
 use Rattle.fixed_arrays.specs.Slots.{FillingParts, fill}
@@ -7,8 +7,10 @@ use Rattle.fixed_arrays.specs.declared.form.ArrayForm.TheVariants.{C, GuardedC, 
 use Rattle.fixed_arrays.specs.declared.text.Frame.{Frame}
 
 -- ---- the table
+-- in C the count of numbers and the fraction length are macros
 abbrev pub c_opening : List ℕ
-c_opening = codes "#include <stdint.h>\n\n/* @f */\nstatic const @uint@w_t @n[@c] = {\n"
+c_opening = codes "#include <stdint.h>\n\n#define @n_COUNT @c\n#define @n_FRAC @p\n\n"
+    ++ codes "/* @f */\nstatic const @uint@w_t @n[@n_COUNT] = {\n"
 
 unfoldable pub opening : ArrayForm → List ℕ
 opening C = c_opening
@@ -40,7 +42,7 @@ closing Coe = codes ";\n"
 closing Mif = codes "END;\n"
 
 -- ---- a list
--- what slots stand for at a number, where no slot is for how many there are; and around the numbers
+-- what slots stand for at a number, with no slot for the count, and around the numbers
 abbrev pub at_number : Frame → ℕ → List ℕ → ℤ → FillingParts
 at_number r index label bits = record {
   name = r.name.now;
@@ -63,11 +65,11 @@ around r count = record {
   bits = pos 0;
 }
 
--- the line of a number that has this name
+-- the line of a number with this name
 abbrev pub element_line : Frame → ℕ → List ℕ → ℤ → List ℕ
 element_line r index label bits = fill (at_number r index label bits) (element r.form)
 
--- the lines of numbers without names, and of named literals, from a place on
+-- the lines of numbers without names, and of named literals, from an index on
 abbrev pub element_lines : Frame → ℕ → List ℤ → List ℕ
 element_lines r index [] = []
 element_lines r index (bits ∷ more) = element_line r index [] bits ++ element_lines r (index + 1) more
@@ -82,7 +84,7 @@ head r count = fill (around r count) (opening r.form)
 abbrev pub tail : Frame → ℕ → List ℕ
 tail r count = fill (around r count) (closing r.form)
 
--- the lists whole
+-- the whole lists
 abbrev pub array_text : Frame → List ℤ → List ℕ
 array_text r numbers = head r (length numbers) ++ (element_lines r 0 numbers ++ tail r (length numbers))
 

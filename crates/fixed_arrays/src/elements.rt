@@ -1,4 +1,4 @@
-//! The elements of an array, from the lines of a list of numerals.
+//! Reads the elements of an array from the lines of a list of numerals.
 
 ghost use Rattle.std.specs.Prelude.{◌≡◌, ◌<◌, ◌+◌, ◌^◌, [], IfErr, IfOk, OnOk};
 ghost use Rattle.fixed_bits.specs.Formats.{IsFormat};
@@ -22,11 +22,11 @@ use std::sync::ledger::Ledger;
 pub struct Elements {
     /// Their text.
     pub text: Vec<u8>,
-    /// How many they are.
+    /// The number of elements.
     pub count: u64,
 }
 
-/// A line without one carriage return at its end.
+/// Returns a line without one carriage return at its end.
 fn without_return(line: &[u8]) -> &[u8]
     ensures { result.now ≡ without_return line.now }
 {
@@ -36,11 +36,11 @@ fn without_return(line: &[u8]) -> &[u8]
     }
 }
 
-/// The bits of the numeral of a line.
+/// Returns the bits of the numeral of a line.
 ///
 /// # Errors
 ///
-/// A line that is refused, with the kind of its cause.
+/// A refused line, with the kind of its cause.
 fn element_of<L: Ledger>(
     numerals: &Numerals,
     line: &[u8],
@@ -93,11 +93,11 @@ impl Elements {
     }
 }
 
-/// The elements of the lines of an input.
+/// Returns the elements of the lines of an input.
 ///
 /// # Errors
 ///
-/// The first line that is refused, an input without a line, or want of memory.
+/// The first refused line, an input without a line, or no memory.
 pub fn read_elements<L: Ledger>(
     alloc: Global,
     rule: &ArrayRule<'_>,

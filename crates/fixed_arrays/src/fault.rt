@@ -1,10 +1,10 @@
-//! Why a list of numerals, or a file of named literals, is no array.
+//! Why a list of numerals, or a file of named literals, is not an array.
 
 use fixed_bits::Format;
 use fixed_constants::ConstantFault;
 use fixed_numeral::ParseFixedError;
 
-/// Why a list of numerals is no array.
+/// Why a list of numerals is not an array.
 #[derive(Clone, Copy, Debug, PartialEq, Eq)]
 pub enum ArrayFault {
     /// There is no line.
@@ -16,11 +16,11 @@ pub enum ArrayFault {
         /// Why.
         error: ParseFixedError,
     },
-    /// There is no memory.
+    /// There was no memory.
     NoMemory,
 }
 
-/// Why a file of named literals is no array.
+/// Why a file of named literals is not an array.
 #[derive(Clone, Copy, Debug, PartialEq, Eq)]
 pub enum LiteralsFault {
     /// There is no literal.
@@ -39,6 +39,6 @@ pub enum LiteralsFault {
         /// The format of the first.
         first: Format,
     },
-    /// There is no memory.
+    /// There was no memory.
     NoMemory,
 }

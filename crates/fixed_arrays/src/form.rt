@@ -1,22 +1,22 @@
-//! What a list of numbers is written as, and which names it may have.
+//! The forms in which a list of numbers is written, and the names that it may have.
 
-ghost use Rattle.std.specs.Prelude.{◌≡◌, ◌↔◌, ◌≤◌, IsTrue, length, map};
+ghost use Rattle.std.specs.Prelude.{◌≡◌, ◌↔◌, ◌≤◌, ◌++◌, IsTrue, length, map};
 ghost use Rattle.std.specs.Char.{to_ascii_lowercase};
 ghost use Rattle.fixed_constants.specs.Constants.{IsName};
 ghost use Rattle.fixed_constants.specs.Forms.{IsAmong, IsReserved};
-ghost use Rattle.fixed_arrays.specs.Names.{AreApart, HasTwoUnderscores, IsArrayName, IsCName, IsKept, IsVhdlName};
-ghost use Rattle.fixed_arrays.specs.Names.{begins_kept, gnu_words, vhdl_words};
+ghost use Rattle.fixed_arrays.specs.Names.{AreApart, HasTwoUnderscores, IsArrayName, IsCArrayName, IsCName, IsKept};
+ghost use Rattle.fixed_arrays.specs.Names.{IsVhdlName, begins_kept, count_ending, frac_ending, gnu_words, vhdl_words};
 
 use fixed_constants::{Form, is_among, is_name, is_reserved};
 use memchr::memmem;
 use text_buffer::TextBuffer;
 
-/// What a list of numbers is written as.
+/// The form in which a list of numbers is written.
 #[derive(Clone, Copy, Debug, PartialEq, Eq)]
 pub enum ArrayForm {
     /// An array in a C header.
     C,
-    /// The same with a guard.
+    /// An array in a C header with a guard.
     GuardedC,
     /// An array of Rust.
     Rust,
@@ -26,11 +26,11 @@ pub enum ArrayForm {
     Readmemh,
     /// A coefficient file, for memories of Xilinx's tools.
     Coe,
-    /// A memory initialization file, for those of Intel's.
+    /// A memory initialization file, for memories of Intel's tools.
     Mif,
 }
 
-/// The keywords of VHDL, and the names that a list's package stands on; each between two spaces.
+/// The keywords of VHDL, and the names that a list's package uses; each between two spaces.
 const VHDL_WORDS: &[u8] = b" \
     abs access after alias all and architecture array assert assume assume_guarantee attribute begin \
     block body buffer bus case component configuration constant context cover default disconnect \
@@ -42,24 +42,24 @@ const VHDL_WORDS: &[u8] = b" \
     unaffected units until use variable vmode vpkg vprop vunit wait when while with xnor xor view \
     ieee numeric_std signed standard std std_logic_1164 unsigned work ";
 
-/// The names that GNU C defines beside those that C reserves, each between two spaces.
+/// The names that GNU C defines in addition to those that C reserves, each between two spaces.
 const GNU_WORDS: &[u8] = b" i386 linux unix ";
 
-/// The names that GNU C defines.
+/// Returns the names that GNU C defines.
 fn gnu_words() -> &'static [u8]
     ensures { result.now ≡ gnu_words }
 {
     GNU_WORDS
 }
 
-/// The words that VHDL reserves.
+/// Returns the words that VHDL reserves.
 fn vhdl_words() -> &'static [u8]
     ensures { result.now ≡ vhdl_words }
 {
     VHDL_WORDS
 }
 
-/// Whether no two underscores of a name are side by side, and none is at its beginning or its end.
+/// Whether a name has no two adjacent underscores, and none at its start or end.
 fn are_apart(name: &[u8]) -> bool
     requires { length name.now ≤ 64 }
     ensures { IsTrue result ↔ AreApart name.now }
@@ -71,7 +71,7 @@ fn are_apart(name: &[u8]) -> bool
     memmem::find(between.as_bytes(), b"__").is_none()
 }
 
-/// The name in small letters.
+/// Returns the name in lower case.
 fn small(name: &[u8]) -> TextBuffer<64>
     requires { length name.now ≤ 64 }
     ensures letters { result ≡ map to_ascii_lowercase name.now }
@@ -92,7 +92,7 @@ fn is_vhdl_word(name: &[u8]) -> bool
     is_among(vhdl_words(), small(name).as_bytes())
 }
 
-/// Whether a name is one that VHDL has and does not reserve.
+/// Whether VHDL allows a name and does not reserve it.
 fn has_vhdl_form(name: &[u8]) -> bool
     requires { length name.now ≤ 64 }
     ensures { IsTrue result ↔ (AreApart name.now × (¬ IsAmong vhdl_words (map to_ascii_lowercase name.now))) }
@@ -114,7 +114,7 @@ fn is_free_name(language: Form, guard: &[u8], name: &[u8]) -> bool
     is_name(name) && !is_reserved(language, guard, name)
 }
 
-/// Whether two underscores of a name are side by side.
+/// Whether a name has two adjacent underscores.
 fn has_two_underscores(name: &[u8]) -> bool
     ensures { IsTrue result ↔ HasTwoUnderscores name.now }
 {
@@ -131,15 +131,15 @@ fn begins_kept(name: &[u8]) -> bool
     }
 }
 
-/// Whether C keeps a name for compilers and libraries: two of its underscores are side by side, or it begins with an
-/// underscore and a capital letter.
+/// Whether C keeps a name for compilers and libraries: it has two adjacent underscores, or begins with an underscore
+/// and a capital letter.
 pub fn is_kept(name: &[u8]) -> bool
     ensures { IsTrue result ↔ IsKept name.now }
 {
     has_two_underscores(name) || begins_kept(name)
 }
 
-/// Whether a name that is no keyword of C is free to use.
+/// Whether a name that is not a keyword of C is free to use.
 fn is_open(name: &[u8]) -> bool
     requires { length name.now ≤ 64 }
     ensures { IsTrue result ↔ ((¬ IsAmong gnu_words name.now) × (¬ IsKept name.now)) }
@@ -148,19 +148,47 @@ fn is_open(name: &[u8]) -> bool
 }
 
 /// Whether a list may have a name in C, in a header with this guard.
-fn is_c_name(guard: &[u8], name: &[u8]) -> bool
+pub fn is_c_name(guard: &[u8], name: &[u8]) -> bool
     ensures { IsTrue result ↔ IsCName guard.now name.now }
 {
     is_free_name(Form::C, guard, name) && is_open(name)
 }
 
-/// Whether a list of a form may have a name, in a header with this guard. The files of a memory have none.
+/// Whether a name with an ending is a name of C, in a header with this guard.
+fn is_c_name_with(guard: &[u8], name: &[u8], ending: &[u8]) -> bool
+    requires name { length name.now ≤ 64 }
+    requires ending { length ending.now ≤ 6 }
+    ensures { IsTrue result ↔ IsCName guard.now (name.now ++ ending.now) }
+{
+    let mut whole: TextBuffer<70> = TextBuffer::new();
+    whole.push_bytes(name);
+    whole.push_bytes(ending);
+    is_c_name(guard, whole.as_bytes())
+}
+
+/// Whether the names of an array's macros are names of C: that of its count, and that of its fraction length.
+fn are_macro_names(guard: &[u8], name: &[u8]) -> bool
+    requires { length name.now ≤ 64 }
+    ensures { IsTrue result ↔ (IsCName guard.now (name.now ++ count_ending)
+        × IsCName guard.now (name.now ++ frac_ending)) }
+{
+    is_c_name_with(guard, name, b"_COUNT") && is_c_name_with(guard, name, b"_FRAC")
+}
+
+/// Whether an array of C may have a name, in a header with this guard: it and the names of its macros are names of C.
+fn is_c_array_name(guard: &[u8], name: &[u8]) -> bool
+    ensures { IsTrue result ↔ IsCArrayName guard.now name.now }
+{
+    is_c_name(guard, name) && are_macro_names(guard, name)
+}
+
+/// Whether a list in a form may have a name, in a header with this guard. Memory files have none.
 pub fn is_array_name(form: ArrayForm, guard: &[u8], name: &[u8]) -> bool
     ensures { IsTrue result ↔ IsArrayName form guard.now name.now }
 {
     match form {
-        ArrayForm::C => is_c_name(guard, name),
-        ArrayForm::GuardedC => is_c_name(guard, name),
+        ArrayForm::C => is_c_array_name(guard, name),
+        ArrayForm::GuardedC => is_c_array_name(guard, name),
         ArrayForm::Rust => is_free_name(Form::Rust, guard, name),
         ArrayForm::Vhdl => is_vhdl_name(name),
         ArrayForm::Readmemh => name.is_empty(),

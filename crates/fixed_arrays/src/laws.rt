@@ -12,7 +12,7 @@ pub fn literal_array_answer_is_the_one()
     ensures { LiteralArrayAnswerIsTheOne }
 {}
 
-/// And at most one first fault, a literal of another format among them.
+/// A file of named literals has at most one first fault, which may be a literal of another format.
 pub fn literals_fault_is_the_one()
     ensures { LiteralsFaultIsTheOne }
 {}

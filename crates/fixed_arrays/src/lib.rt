@@ -1,8 +1,8 @@
-//! Lists of numerals, and files of named literals, as arrays of C, Rust and VHDL, and as files of a memory.
+//! Lists of numerals, and files of named literals, as arrays of C, Rust and VHDL, and as memory files.
 //!
-//! `rule` answers an input, one numeral a line, with the list of its numbers in a form, and `literal_rule` one with a
-//! named literal a line; `form` says which names a list may have. A form is a row of `table`: three templates, which
-//! `slots` fills.
+//! `rule` answers an input, one numeral a line, with the list of its numbers in a form, and `literal_rule` an input
+//! with one named literal a line; `form` says which names a list may have. A form is a row of `table`: three templates,
+//! which `slots` fills.
 #![tactic(auto)]
 
 mod elements;
@@ -17,6 +17,6 @@ mod table;
 mod text;
 
 pub use fault::{ArrayFault, LiteralsFault};
-pub use form::{ArrayForm, is_array_name, is_kept};
+pub use form::{ArrayForm, is_array_name, is_c_name, is_kept};
 pub use literal_rule::LiteralArrayRule;
 pub use rule::{ArrayRule, Numerals};

@@ -19,18 +19,18 @@ use line_engine::{NoMemory, WholeAnswer, WholeRule};
 use std::alloc::{AllocError, Global};
 use std::sync::ledger::Ledger;
 
-/// The rule that answers a file of named literals of one format with the array of their numbers, in their order.
+/// The rule that answers a file of named literals of one format with the array of their numbers, in order.
 #[derive(Clone, Copy, Debug, PartialEq, Eq)]
 pub struct LiteralArrayRule<'a> {
-    /// What the array is written as.
+    /// The form of the array.
     pub form: ArrayForm,
     /// The name of the array.
     pub name: &'a [u8],
-    /// The name that guards a C header; empty where there is none.
+    /// The name that guards a C header; empty without a guard.
     pub guard: &'a [u8],
 }
 
-/// What a rule has numbers of a format written as.
+/// Returns the frame of an array by a rule, with numbers of a format.
 fn frame_for<'a>(rule: &LiteralArrayRule<'a>, format: Format) -> Frame<'a>
     ensures { result ≡ frame_for rule.now format }
 {
@@ -42,7 +42,7 @@ fn frame_for<'a>(rule: &LiteralArrayRule<'a>, format: Format) -> Frame<'a>
     }
 }
 
-/// The array of named literals.
+/// Returns the array of named literals.
 fn array_of<L: Ledger>(
     alloc: Global,
     frame: &Frame<'_>,
@@ -56,7 +56,7 @@ fn array_of<L: Ledger>(
     array_text(alloc, frame, &elements, steps)
 }
 
-/// The answer that names a fault.
+/// Returns the answer that names a fault.
 fn refusal(alloc: Global, fault: LiteralsFault) -> Result<WholeAnswer, NoMemory>
     ensures memory { IfOk result (λ answer. ¬ (fault ≡ LiteralsFault.NoMemory)) }
     ensures text { IfOk result (λ answer. answer.text ≡ literals_fault_line fault) }

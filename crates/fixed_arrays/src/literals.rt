@@ -1,4 +1,4 @@
-//! The constants of a file of named literals that have one format, and the text of their array.
+//! Reads the constants of a file of named literals with one format, and writes the text of their array.
 //!
 //! The elements of an array have one type, so a literal of another format than the first is refused and not converted.
 //! The names are in comments, where no language reserves any. COE has no comments on its lines, and so no names.
@@ -26,7 +26,7 @@ use line_engine::first_line;
 use std::alloc::{AllocError, Global};
 use std::sync::ledger::Ledger;
 
-/// The format that a line's format word names. None for a line that is passed over or has no such word.
+/// Returns the format of a line. `None`: it is passed over or has no format word.
 fn format_of(line: &[u8]) -> Option<Format>
     ensures { MatchOption result ((f : FormatParts) → ¬ HasFormat line.now f) (λ f. HasFormat line.now f) }
 {
@@ -37,7 +37,7 @@ fn format_of(line: &[u8]) -> Option<Format>
     format_word(fields.format)
 }
 
-/// The format of the first line of a text that has one.
+/// Returns the format of the first line of a text that has one.
 pub fn first_format(text: &[u8]) -> Option<Format>
     ensures { MatchOption result ((f : FormatParts) → ¬ HasFirstFormat (lines text.now) f)
         (λ f. HasFirstFormat (lines text.now) f) }
@@ -53,7 +53,7 @@ pub fn first_format(text: &[u8]) -> Option<Format>
     None
 }
 
-/// Whether a line has a format, and another than this.
+/// Whether a line has another format than `format`.
 fn has_other(line: &[u8], format: Format) -> bool
     ensures { IsTrue result ↔ HasOther format line.now }
 {
@@ -63,7 +63,7 @@ fn has_other(line: &[u8], format: Format) -> bool
     }
 }
 
-/// The number, from 1, of the first line of a text that has another format than this.
+/// Returns the number, from 1, of the first line of a text with another format than `format`.
 fn first_other(text: &[u8], format: Format) -> Option<u64>
     ensures { MatchOption result ((p : ℕ) → ¬ OtherFrom 1 format (lines text.now) p)
         (λ p. OtherFrom 1 format (lines text.now) p) }
@@ -81,7 +81,7 @@ fn first_other(text: &[u8], format: Format) -> Option<u64>
     None
 }
 
-/// Why a text is no array of which no line has a format.
+/// Returns why a text without a line with a format is not an array.
 pub fn fault_without_format(alloc: Global, text: &[u8]) -> LiteralsFault
     requires { (f : FormatParts) → ¬ HasFirstFormat (lines text.now) f }
     ensures { HasLiteralsError text.now result }
@@ -93,12 +93,12 @@ pub fn fault_without_format(alloc: Global, text: &[u8]) -> LiteralsFault
     }
 }
 
-/// The constants of a text, which all have the format of its first line that has one.
+/// Returns the constants of a text, which all have the format of its first line that has one.
 ///
 /// # Errors
 ///
-/// The first line with a fault, or of another format, whichever is earlier; on one line the fault. It may find no
-/// memory.
+/// The first line with a fault, or with another format, whichever is earlier; if one line has both, the fault. There
+/// may be no memory.
 pub fn read_of_format(alloc: Global, text: &[u8], first: Format) -> Result<Constants, LiteralsFault>
     requires { HasFirstFormat (lines text.now) first }
     ensures ok { IfOk result (λ constants. AreLiterals text.now first constants) }
@@ -124,7 +124,7 @@ pub fn read_of_format(alloc: Global, text: &[u8], first: Format) -> Result<Const
     }
 }
 
-/// Appends the line of a named literal, at this place in its list.
+/// Appends the line of a named literal with this index in its list.
 fn push_literal<L: Ledger>(
     text: &mut Vec<u8>,
     frame: &Frame<'_>,
@@ -158,7 +158,7 @@ fn push_literals<L: Ledger>(
     Ok(())
 }
 
-/// The elements of named literals.
+/// Returns the elements of named literals.
 pub fn literal_elements<L: Ledger>(
     alloc: Global,
     frame: &Frame<'_>,
@@ -177,7 +177,7 @@ pub fn literal_elements<L: Ledger>(
     })
 }
 
-/// What is written where a literal has another format than the first.
+/// Returns the text for a literal of another format than the first.
 fn other_format_text(alloc: Global, line: u64, first: Format) -> Result<Vec<u8>, AllocError>
     ensures { IfOk result (λ text. text.items ≡ other_format_line line first) }
 {
@@ -190,7 +190,7 @@ fn other_format_text(alloc: Global, line: u64, first: Format) -> Result<Vec<u8>,
     Ok(text)
 }
 
-/// What is written for a fault.
+/// Returns the text for a fault.
 pub fn literals_fault_text(alloc: Global, fault: LiteralsFault) -> Result<Vec<u8>, AllocError>
     ensures { IfOk result (λ text. text.items ≡ literals_fault_line fault) }
 {

@@ -22,7 +22,7 @@ pub struct Numerals {
     pub radix: Radix,
     /// The format that they are read into.
     pub format: Format,
-    /// What is done with a number that is out of range.
+    /// What to do with a number out of range.
     pub policy: Policy,
     /// How a numeral is rounded.
     pub mode: ReadMode,
@@ -31,17 +31,17 @@ pub struct Numerals {
 /// The rule that answers a list of numerals, one a line, with the array of its numbers.
 #[derive(Clone, Copy, Debug, PartialEq, Eq)]
 pub struct ArrayRule<'a> {
-    /// What the array is written as.
+    /// The form of the array.
     pub form: ArrayForm,
     /// How the numerals are read.
     pub numerals: Numerals,
     /// The name of the array.
     pub name: &'a [u8],
-    /// The name that guards a C header; empty where there is none.
+    /// The name that guards a C header; empty without a guard.
     pub guard: &'a [u8],
 }
 
-/// The answer that names a fault.
+/// Returns the answer that names a fault.
 fn refusal(alloc: Global, fault: ArrayFault) -> Result<WholeAnswer, NoMemory>
     ensures text { IfOk result (λ answer. answer.text ≡ fault_line fault) }
     ensures fault { IfOk result (λ answer. answer.fault ≡ true) }

@@ -1,4 +1,4 @@
-//! Templates: texts with slots that stand for a list, its format and one of its numbers.
+//! Templates: texts with slots for a list, its format and one of its numbers.
 
 ghost use Rattle.std.specs.Prelude.{◌≡◌, ◌≤◌, ◌<◌, ◌+◌, ◌^◌, ◌++◌, ◌∷◌, List, ℕ, IfOk, OnOk, false, length};
 ghost use Rattle.std.specs.Fmt.{decimal, digit_glyph};
@@ -22,7 +22,7 @@ use text_buffer::TextBuffer;
 /// The byte before a slot of a template.
 const MARK: u8 = b'@';
 
-/// What slots stand for.
+/// The contents of slots.
 #[derive(Clone, Copy)]
 pub struct Filling<'a> {
     /// The list's name.
@@ -31,17 +31,17 @@ pub struct Filling<'a> {
     pub guard: &'a [u8],
     /// The format of the numbers.
     pub format: Format,
-    /// How many numbers there are.
+    /// The count of numbers.
     pub count: u64,
-    /// The name of a number; empty where it has none.
+    /// The name of a number; empty if it has none.
     pub label: &'a [u8],
-    /// Its place, from 0.
+    /// Its index, from 0.
     pub index: u64,
     /// Its bits.
     pub bits: i128,
 }
 
-/// How many bits the integer type of an element has, of a format of this width.
+/// Returns the width of an element's integer type in bits, for a format of this width.
 fn element_width(width: u32) -> u32
     ensures value { result ≡ element_width width }
     ensures enough { width ≤ 64 → width ≤ result }
@@ -58,7 +58,7 @@ fn element_width(width: u32) -> u32
     }
 }
 
-/// The format with as many bits as the integer type of an element.
+/// Returns the format with the width of an element's integer type.
 fn element_format(format: Format) -> Format
     ensures { result ≡ element_format format }
 {
@@ -69,28 +69,28 @@ fn element_format(format: Format) -> Format
     )
 }
 
-/// What comes before the names of unsigned types of C.
+/// Returns the prefix of C's integer types.
 fn c_sign(signed: bool) -> &'static [u8]
     ensures { result.now ≡ c_sign signed }
 {
     if signed { b"" } else { b"u" }
 }
 
-/// What the integer types of Rust begin with.
+/// Returns the prefix of Rust's integer types.
 fn rust_sign(signed: bool) -> &'static [u8]
     ensures { result.now ≡ rust_sign signed }
 {
     if signed { b"i" } else { b"u" }
 }
 
-/// What comes before `signed` of VHDL.
+/// Returns the prefix of VHDL's `signed`.
 fn vhdl_sign(signed: bool) -> &'static [u8]
     ensures { result.now ≡ vhdl_sign signed }
 {
     if signed { b"" } else { b"un" }
 }
 
-/// What comes before a number that others stand before.
+/// Returns the separator before a number, empty for the first.
 fn separator(index: u64) -> &'static [u8]
     ensures { result.now ≡ separator index }
 {
@@ -105,7 +105,7 @@ fn push_bytes(text: &mut Vec<u8>, bytes: &[u8]) -> Result<(), AllocError>
     Ok(())
 }
 
-/// Appends the name of a number, where it has one, and what is between it and the number's value.
+/// Appends the name of a number, if any, and the separator before its value.
 fn push_label(text: &mut Vec<u8>, label: &[u8]) -> Result<(), AllocError>
     ensures { OnOk result (text.new.items ≡ text.old.items ++ label_text label.now) }
 {
@@ -142,7 +142,7 @@ fn push_value<L: Ledger>(
     Ok(())
 }
 
-/// Two to the power of a format's width.
+/// Returns two to the power of a format's width.
 fn turn_of(format: Format) -> u128
     ensures turn { result ≡ 2 ^ format.width }
     ensures most { result ≤ 2 ^ 64 }
@@ -151,7 +151,7 @@ fn turn_of(format: Format) -> u128
     1 << format.width()
 }
 
-/// The bits of a format as an unsigned number: two's complement.
+/// Returns the bits of a format in two's complement, as an unsigned number.
 fn word_of(format: Format, bits: i128) -> u64
     requires { IsInRange format.signed format.width bits }
     ensures { result ≡ word_of format.width bits }
@@ -163,7 +163,7 @@ fn word_of(format: Format, bits: i128) -> u64
     }
 }
 
-/// A digit, in a small letter.
+/// Returns a digit in lower case.
 fn glyph_of(digit: u8) -> u8
     requires { digit < 16 }
     ensures { result ≡ digit_glyph false digit }
@@ -175,7 +175,7 @@ fn glyph_of(digit: u8) -> u8
     }
 }
 
-/// Appends the last `count` digits of a word in a base, with leading zeros where it has fewer.
+/// Appends the last `count` digits of a word in a base, with leading zeros if it has fewer.
 fn push_last(digits: &mut TextBuffer<64>, base: u64, word: u64, count: u32)
     requires some { 0 < base }
     requires most { base ≤ 16 }
@@ -189,7 +189,7 @@ fn push_last(digits: &mut TextBuffer<64>, base: u64, word: u64, count: u32)
     }
 }
 
-/// Appends bits in two's complement, in hexadecimal.
+/// Appends bits in two's complement in hexadecimal.
 fn push_hex_word(text: &mut Vec<u8>, format: Format, bits: i128) -> Result<(), AllocError>
     requires { IsInRange format.signed format.width bits }
     ensures { OnOk result (text.new.items ≡ text.old.items ++ hex_digits format.width bits) }
@@ -205,7 +205,7 @@ fn push_hex_word(text: &mut Vec<u8>, format: Format, bits: i128) -> Result<(), A
     Ok(())
 }
 
-/// Appends bits in two's complement, in binary.
+/// Appends bits in two's complement in binary.
 fn push_binary_word(text: &mut Vec<u8>, format: Format, bits: i128) -> Result<(), AllocError>
     requires { IsInRange format.signed format.width bits }
     ensures { OnOk result (text.new.items ≡ text.old.items ++ binary_digits format.width bits) }
@@ -216,7 +216,7 @@ fn push_binary_word(text: &mut Vec<u8>, format: Format, bits: i128) -> Result<()
     Ok(())
 }
 
-/// Appends what a slot of a number stands for.
+/// Appends the contents of a slot for a number.
 fn push_number_slot<L: Ledger>(
     text: &mut Vec<u8>,
     filling: &Filling<'_>,
@@ -238,7 +238,7 @@ fn push_number_slot<L: Ledger>(
     }
 }
 
-/// Appends what a slot of a count, or one of a number, stands for.
+/// Appends the contents of a slot for a count or a number.
 fn push_count_slot<L: Ledger>(
     text: &mut Vec<u8>,
     filling: &Filling<'_>,
@@ -257,11 +257,12 @@ fn push_count_slot<L: Ledger>(
         b'w' => push_number(text, u64::from(element_width(width))),
         b'b' => push_number(text, u64::from(width)),
         b'm' => push_number(text, u64::from(width - 1)),
+        b'p' => push_number(text, u64::from(filling.format.frac())),
         _ => push_number_slot(text, filling, key, steps),
     }
 }
 
-/// Appends what a slot stands for.
+/// Appends the contents of a slot.
 fn push_slot<L: Ledger>(
     text: &mut Vec<u8>,
     filling: &Filling<'_>,
@@ -286,8 +287,8 @@ fn push_slot<L: Ledger>(
     }
 }
 
-/// Appends what the next byte of a template says: itself, or what the slot stands for. The answer is whether the byte
-/// after it is a slot.
+/// Appends the next byte of a template, or the contents of the slot that it names. Returns whether the byte after it
+/// names a slot.
 fn push_next<L: Ledger>(
     text: &mut Vec<u8>,
     filling: &Filling<'_>,

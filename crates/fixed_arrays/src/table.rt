@@ -1,8 +1,8 @@
-//! How a list of numbers is written: in each form an opening, the line of an element, and a closing.
+//! The templates of a list of numbers: in each form an opening, the line of an element, and a closing.
 //!
 //! A number of VHDL is a string of bits: an integer may have no more than 32 bits there, and before VHDL-2008 a
-//! hexadecimal string needs a width that is a multiple of four. The last choice, `others`, stands for no number, so
-//! each line ends with a comma, and a list of one number is no special case. A coefficient file has no comments beside
+//! hexadecimal string needs a width that is a multiple of four. The last choice, `others`, matches no number, so each
+//! line ends with a comma, and a list of one number is not a special case. A coefficient file has no comments beside
 //! its numbers, since the semicolon before one ends the vector.
 
 ghost use Rattle.std.specs.Prelude.{◌≡◌};
@@ -10,10 +10,13 @@ ghost use Rattle.fixed_arrays.specs.Table.{closing, element, opening};
 
 use crate::form::ArrayForm;
 
-const C_OPENING: &[u8] = b"#include <stdint.h>\n\n/* @f */\nstatic const @uint@w_t @n[@c] = {\n";
+const C_OPENING: &[u8] = b"\
+    #include <stdint.h>\n\n#define @n_COUNT @c\n#define @n_FRAC @p\n\n\
+    /* @f */\nstatic const @uint@w_t @n[@n_COUNT] = {\n";
 
-const GUARDED_OPENING: &[u8] =
-    b"#ifndef @g\n#define @g\n\n#include <stdint.h>\n\n/* @f */\nstatic const @uint@w_t @n[@c] = {\n";
+const GUARDED_OPENING: &[u8] = b"\
+    #ifndef @g\n#define @g\n\n#include <stdint.h>\n\n#define @n_COUNT @c\n#define @n_FRAC @p\n\n\
+    /* @f */\nstatic const @uint@w_t @n[@n_COUNT] = {\n";
 
 const VHDL_OPENING: &[u8] = b"\
     library ieee;\nuse ieee.std_logic_1164.all;\nuse ieee.numeric_std.all;\n\n-- @f\n\
@@ -28,7 +31,7 @@ const MIF_OPENING: &[u8] =
 
 const VHDL_CLOSING: &[u8] = b"        others => (others => '0')\n    );\nend package @n_package;\n";
 
-/// What comes before the numbers: a template.
+/// Returns the template of the text before the numbers.
 pub fn opening_of(form: ArrayForm) -> &'static [u8]
     ensures { result.now ≡ opening form }
 {
@@ -43,7 +46,7 @@ pub fn opening_of(form: ArrayForm) -> &'static [u8]
     }
 }
 
-/// The line of a number: a template.
+/// Returns the template of the line of a number.
 pub fn element_of(form: ArrayForm) -> &'static [u8]
     ensures { result.now ≡ element form }
 {
@@ -58,7 +61,7 @@ pub fn element_of(form: ArrayForm) -> &'static [u8]
     }
 }
 
-/// What comes after the numbers: a template.
+/// Returns the template of the text after the numbers.
 pub fn closing_of(form: ArrayForm) -> &'static [u8]
     ensures { result.now ≡ closing form }
 {

@@ -1,4 +1,4 @@
-//! The text of a list of numbers.
+//! Writes the text of a list of numbers.
 
 ghost use Rattle.std.specs.Prelude.{◌≡◌, ◌++◌, IfOk, OnOk, pos};
 ghost use Rattle.fixed_bits.specs.Ranges.{IsInRange, IsWide};
@@ -17,10 +17,10 @@ use fixed_steps::Steps;
 use std::alloc::{AllocError, Global};
 use std::sync::ledger::Ledger;
 
-/// What a list is written as, and what its numbers have in common.
+/// The form of a list, and what its numbers have in common.
 #[derive(Clone, Copy)]
 pub struct Frame<'a> {
-    /// What it is written as.
+    /// Its form.
     pub form: ArrayForm,
     /// Its name.
     pub name: &'a [u8],
@@ -30,7 +30,7 @@ pub struct Frame<'a> {
     pub format: Format,
 }
 
-/// What a rule has a list written as.
+/// Returns the frame of a list by a rule.
 pub fn frame_of<'a>(rule: &ArrayRule<'a>) -> Frame<'a>
     ensures { result ≡ frame_of rule.now }
 {
@@ -42,7 +42,7 @@ pub fn frame_of<'a>(rule: &ArrayRule<'a>) -> Frame<'a>
     }
 }
 
-/// Appends the line of a number, at this place in its list; its name is empty where it has none.
+/// Appends the line of a number with this index in its list; `label` is its name, or empty.
 pub fn push_element<L: Ledger>(
     text: &mut Vec<u8>,
     frame: &Frame<'_>,
@@ -67,7 +67,7 @@ pub fn push_element<L: Ledger>(
     push_filled(text, &filling, element_of(frame.form), steps)
 }
 
-/// What slots stand for around so many numbers.
+/// Returns the contents of the slots around `count` numbers.
 fn around<'a>(frame: &Frame<'a>, count: u64) -> Filling<'a>
     ensures parts { parts_of result ≡ around frame.now count }
     ensures bits { result.bits ≡ pos 0 }
@@ -83,7 +83,7 @@ fn around<'a>(frame: &Frame<'a>, count: u64) -> Filling<'a>
     }
 }
 
-/// The list of these elements.
+/// Returns the list of these elements.
 pub fn array_text<L: Ledger>(
     alloc: Global,
     frame: &Frame<'_>,
@@ -101,7 +101,7 @@ pub fn array_text<L: Ledger>(
     Ok(text)
 }
 
-/// What is written for a fault.
+/// Returns the text for a fault.
 pub fn fault_text(alloc: Global, fault: ArrayFault) -> Result<Vec<u8>, AllocError>
     ensures { IfOk result (λ text. text.items ≡ fault_line fault) }
 {

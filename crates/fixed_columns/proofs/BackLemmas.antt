@@ -1,4 +1,4 @@
--- A column of decimals reads back as its cells.
+-- A written column of decimals reads back as its cells.
 use Rattle.std.proofs.Common.{◌≡◌, ◌≤◌, ◌<◌, ◌-◌, ◌==◌, ◌||◌, ℕ, zero, suc, Bool, true, false, IsTrue, cond, List, [], ◌∷◌, ◌++◌, length, get_or, ℤ, refl, sym, ap, ◌∙◌, subst, arith, inl, inr, append_assoc, append-nil, length-append}
 use Rattle.std.specs.Prelude.{Option, Some, None, IfSome, All, Contains, option_to_list, decimal}
 use Rattle.std.specs.Char.{encode_utf8}
@@ -26,12 +26,12 @@ use Rattle.line_engine.specs.Lines.{lines}
 use Rattle.line_engine.specs.LineLaws.{LineComesFirst}
 use Rattle.fixed_columns.specs.Answer.{decimal_style}
 use Rattle.fixed_columns.specs.Cells.{CellParts, HoldsAsOften, IsCell, times}
-use Rattle.fixed_columns.specs.CellsText.{IsRow}
+use Rattle.fixed_columns.specs.ColumnText.{IsRow}
 use Rattle.fixed_columns.specs.Laws.{AnswerReadsBack, ColumnReadsBack}
 use Rattle.fixed_columns.specs.Rows.{SpellAll, Spells, after_spaces}
 use Rattle.fixed_columns.specs.Lemmas.SortedLemmas.{IsAt, occurs, times_cons, times_head}
 
--- ---- bytes above a byte
+-- ---- lists of bytes above a byte
 abbrev AreAbove : ℕ → List ℕ → Type 0
 AreAbove n [] = Unit {0}
 AreAbove n (b ∷ bytes) = (n < b) × AreAbove n bytes
@@ -53,7 +53,7 @@ differs : (x b : ℕ) (t : Bool) → (x == b) ≡ t → b < x → (x == b) ≡ f
 differs x b true e l = absurd (let same : x ≡ b = (unsigned_Decides x b).0 e in omega (arith, same, l))
 differs x b false e l = e
 
--- no such byte is among them
+-- bytes above `n` do not contain a byte up to `n`
 none_of : (b n : ℕ) (xs : List ℕ) → b ≤ n → AreAbove n xs → count_of b xs ≡ 0
 none_of b n [] l a = refl
 none_of b n (x ∷ xs) l a =
@@ -64,7 +64,7 @@ none_of b n (x ∷ xs) l a =
 no_newline : (xs : List ℕ) → AreAbove 31 xs → Contains xs 10 → ⊥
 no_newline xs a (k, below, is) = omega (arith, above_at 31 xs k 10 below a, is)
 
--- ---- a numeral holds no space
+-- ---- a numeral contains no space
 digits_above : (ds : List ℕ) → AllDigits 10 ds → AreAbove 32 ds
 digits_above [] h = tt
 digits_above (d ∷ ds) h = let r = digit_from_value d h.0 in (omega (arith, r.0), digits_above ds h.1)
@@ -103,7 +103,7 @@ numeral_above bytes p has =
     (above_append 32 p.whole (fraction_text p.fraction ++ exponent_text p.exponent) (digits_above p.whole parts.whole)
     (above_append 32 (fraction_text p.fraction) (exponent_text p.exponent) (fraction_above p.fraction parts.fraction) (exponent_above p.exponent parts.exponent))))
 
--- and is not empty
+-- a numeral is not empty
 some_by : (sign whole : List ℕ) (fraction : Option (List ℕ)) (exponent : List ℕ) → 0 < length (whole ++ fractional_digits fraction) → 0 < length (sign ++ (whole ++ (fraction_text fraction ++ exponent)))
 some_by sign whole None exponent h = omega (arith, h, length-append whole [], length-append sign (whole ++ exponent), length-append whole exponent)
 some_by sign whole (Some ds) exponent h = omega (arith, length-append sign (whole ++ (fraction_text (Some ds) ++ exponent)), length-append whole (fraction_text (Some ds) ++ exponent), length-append (fraction_text (Some ds)) exponent)
@@ -113,7 +113,7 @@ numeral_some bytes p has =
     let P : List ℕ → Type 0 = λ t. 0 < length t in
     subst P (sym has.beginning.text) (some_by (option_to_list p.sign) p.whole p.fraction (exponent_text p.exponent) has.mantissa)
 
--- ---- the word of a format
+-- ---- the name of a format
 decimal_above : (n : ℕ) → n ≤ 64 → AreAbove 32 (decimal n)
 decimal_above n l = let is = decimal_is_IsNumeral n (omega (arith, l)) in digits_above (decimal n) is.0.1
 
@@ -224,7 +224,7 @@ column_back reads first width (c ∷ cells) text all is =
     let S : List (List ℕ) → Type 0 = λ ls. SpellAll ls (c ∷ cells) in
     subst S (sym split) (c, cells, row.spells, refl, more)
 
--- ---- the answer reads back
+-- ---- the answer reads back as its cells
 spelled_cell : (line : List ℕ) (c : CellParts) → Spells line c → IsCell c
 spelled_cell line c s = record { format = s.format.format; in_range = s.bits.in_range }
 

@@ -1,4 +1,4 @@
--- Cells of one format are ordered as their bits.
+-- Cells of one format have the order of their bits.
 use Rattle.std.proofs.Common.{◌≡◌, ℕ, ◌^◌, ℤ, pow_pos, refl, sym, subst}
 use Rattle.std.specs.declared.cmp.Ordering.{Ordering}
 use Rattle.std.specs.declared.cmp.Ordering.TheVariants.{Less, Equal, Greater}

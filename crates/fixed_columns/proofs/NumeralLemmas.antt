@@ -1,4 +1,4 @@
--- What the reading of a numeral says of it.
+-- From the reading of a numeral to its definition.
 use Rattle.std.proofs.Common.{◌≡◌, ℕ, List, ℤ, sym, subst, refl, inr}
 use Rattle.fixed_bits.specs.Formats.{FormatParts}
 use Rattle.fixed_bits.specs.Images.{IsImage}
@@ -23,7 +23,7 @@ numeral_in f bytes found p bits is has reading image in_range =
     let V : ℤ → Type 0 = λ v. IsReadNumber NearestEven Dec p f.frac v in
     record { parts = p; has = has; read = subst V (sym at) (subst N is reading.read); in_range = subst R is in_range }
 
--- and out of range
+-- a reading into the format whose number is out of range
 pub numeral_out : (f : FormatParts) (bytes : List ℕ) (found : ReadNumber) (p : Parts) → found.format ≡ f → HasNumeral Dec bytes p → IsReading NearestEven Dec p found
     → ((v : ℤ) → IsNumber (number_in found) v → IsOutOfRange found.format.signed found.format.width v) → IsRefusedNumeral f bytes Overflow
 numeral_out f bytes found p is has reading out =

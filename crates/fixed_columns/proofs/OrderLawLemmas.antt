@@ -1,4 +1,4 @@
--- What the order of cells says of values and formats.
+-- What the order of cells means for values and formats.
 use Rattle.std.proofs.Common.{◌≡◌, ◌<◌, ◌⊎◌, ℕ, Bool, true, false, refl, sym, ap, ◌∙◌, inl, inr}
 use Rattle.std.specs.Cmp.{nat_cmp_is, ranked, tied_itself, bool_cmp_total}
 use Rattle.std.specs.declared.cmp.Ordering.{Ordering}
@@ -31,7 +31,7 @@ of_values a b h = then_first (order_of a.bits a.format.frac b.bits b.format.frac
 pub of_formats : TiesAreOfFormats
 of_formats a b h = then_second (order_of a.bits a.format.frac b.bits b.format.frac) (format_order a.format b.format) h
 
--- ---- formats
+-- ---- the order of formats
 nat_less : (x y : ℕ) → x < y → nat_cmp x y ≡ Less
 nat_less x y h = sym (nat_cmp_is x y Less h)
 
@@ -53,7 +53,7 @@ sign_less s t e f = rw (e, f) refl
 sign_same : (s t : Bool) → s ≡ t → bool_cmp s t ≡ Equal
 sign_same s t e = rw e (tied_itself bool_cmp_total t)
 
--- which of three comparisons decides
+-- the first of three comparisons that is not equal decides
 less_of_three : (p q r : Ordering) → ordering_then (ordering_then p q) r ≡ Less → (p ≡ Less) ⊎ ((p ≡ Equal) × (q ≡ Less)) ⊎ ((p ≡ Equal) × (q ≡ Equal) × (r ≡ Less))
 less_of_three Less q r e = inl refl
 less_of_three Equal Less r e = inr (inl (refl, refl))

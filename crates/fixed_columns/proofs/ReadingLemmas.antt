@@ -5,13 +5,13 @@ use Rattle.fixed_columns.specs.Cells.{CellParts}
 use Rattle.fixed_columns.specs.Rows.{FailAt, HasFault, IsCellsOf, IsFaultOf, SpellAll, Spells}
 use Rattle.fixed_columns.specs.declared.fault.CellFault.{CellFault}
 
--- the first lines of a text, this many, spell the cells so far: what the rest says completes the text
+-- the first `number` lines of the text spell `cells`, and the cells or the fault of the rest complete the text
 pub record ReadUpTo (text rest : List ℕ) (number : ℕ) (cells : List CellParts) : Type 0 where
   pub room : number + length rest ≤ length text
   pub cells_of : (more : List CellParts) → SpellAll (lines rest) more → SpellAll (lines text) (cells ++ more)
   pub fault_of : (p : ℕ) (fault : CellFault) → FailAt (number + 1) (lines rest) p fault → FailAt 1 (lines text) p fault
 
--- one line more
+-- one more line
 pub one_read : (text rest line after : List ℕ) (number next : ℕ) (cells new : List CellParts) (c : CellParts) → lines rest ≡ line ∷ lines after → length after < length rest → next ≡ number + 1 → Spells line c → new ≡ cells ++ c ∷ [] → ReadUpTo text rest number cells → ReadUpTo text after next new
 one_read text rest line after number next cells new c split shorter is spells added before =
     let A : List (List ℕ) → Type 0 = λ ls. (more : List CellParts) → SpellAll ls more → SpellAll (lines text) (cells ++ more) in
@@ -34,7 +34,7 @@ fault_here text rest line after number next cells fault split is has before =
     let F : List (List ℕ) → Type 0 = λ ls. FailAt (number + 1) ls next fault → FailAt 1 (lines text) next fault in
     subst F split (before.fault_of next fault) (inl (has, is))
 
--- no line is left
+-- no line is left if the rest is empty
 nothing : (rest : List ℕ) → length rest ≡ 0 → rest ≡ []
 nothing [] none = refl
 nothing (b ∷ rest) none = absurd (omega (arith, none))

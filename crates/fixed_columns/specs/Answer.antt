@@ -1,4 +1,4 @@
--- What is written for an input.
+-- The answer to an input.
 use Rattle.std.specs.Prelude.{◌≡◌, ◌⊎◌, ℕ, List, [], ◌∷◌, ◌++◌, None, true, false, codes, decimal}
 use Rattle.fixed_numeral.specs.Messages.{message_of}
 use Rattle.fixed_write.specs.declared.style.Notation.TheVariants.{Dec}
@@ -6,7 +6,7 @@ use Rattle.fixed_write.specs.declared.style.Align.TheVariants.{Right}
 use Rattle.fixed_write.specs.declared.style.Style.{Style}
 use Rattle.line_engine.specs.AnswerText.{AnswerText}
 use Rattle.fixed_columns.specs.Cells.{CellParts, HoldsAsOften, IsInOrder}
-use Rattle.fixed_columns.specs.CellsText.{IsCellsText}
+use Rattle.fixed_columns.specs.ColumnText.{IsColumnText}
 use Rattle.fixed_columns.specs.Rows.{IsCellsOf, IsFaultOf}
 use Rattle.fixed_columns.specs.declared.fault.CellFault.{CellFault}
 use Rattle.fixed_columns.specs.declared.fault.CellFault.TheVariants.{MissingField, BadFormat, BadNumeral}
@@ -17,11 +17,11 @@ fault_message MissingField = codes "missing field"
 fault_message BadFormat = codes "bad format"
 fault_message (BadNumeral kind) = message_of kind
 
--- what is written for a fault on line p
+-- the line written for a fault on line `p`
 abbrev pub fault_line : ℕ → CellFault → List ℕ
 fault_line p fault = codes "error: line " ++ (decimal p ++ (codes ": " ++ (fault_message fault ++ 10 ∷ [])))
 
--- the default text of a number, with spaces before it up to a width
+-- the default text of a number, with leading spaces up to a width
 abbrev pub decimal_style : ℕ → Style
 decimal_style width = record {
   notation = Dec;
@@ -37,17 +37,17 @@ decimal_style width = record {
 abbrev pub column_style : Style
 column_style = decimal_style 24
 
--- the column of the input's cells in order: each as often as in the input
+-- the column of the input's cells in order, each as often as in the input
 pub record IsColumnAnswer (input : List ℕ) (answer : AnswerText) : Type 0 where
   pub cells : List CellParts
   pub are : IsCellsOf input cells
   pub sorted : List CellParts
   pub same : HoldsAsOften cells sorted
   pub order : IsInOrder sorted
-  pub text : IsCellsText column_style sorted answer.text
+  pub text : IsColumnText column_style sorted answer.text
   pub fault : answer.fault ≡ false
 
--- its first fault
+-- the input's first fault
 pub record IsFaultAnswer (input : List ℕ) (answer : AnswerText) : Type 0 where
   pub line : ℕ
   pub why : CellFault
@@ -55,6 +55,6 @@ pub record IsFaultAnswer (input : List ℕ) (answer : AnswerText) : Type 0 where
   pub text : answer.text ≡ fault_line line why
   pub fault : answer.fault ≡ true
 
--- the answer is the answer to the input
+-- the answer to an input
 abbrev pub IsWholeAnswer : List ℕ → AnswerText → Type 0
 IsWholeAnswer input answer = IsColumnAnswer input answer ⊎ IsFaultAnswer input answer

@@ -12,7 +12,7 @@ pub record CellParts : Type 0 where
   pub format : FormatParts
   pub bits : ℤ
 
--- the format is one, and the bits are in its range
+-- the format is valid, and the bits are in its range
 pub record IsCell (c : CellParts) : Type 0 where
   pub format : IsTypeFormat c.format.width c.format.frac
   pub in_range : IsInRange c.format.signed c.format.width c.bits
@@ -30,11 +30,11 @@ format_order f g = ordering_then (ordering_then (nat_cmp f.width g.width) (bool_
 abbrev pub cell_order : CellParts → CellParts → Ordering
 cell_order a b = ordering_then (order_of a.bits a.format.frac b.bits b.format.frac) (format_order a.format b.format)
 
--- how often a cell occurs in a list: a cell of the list counts where the order does not tell the two apart
+-- how often a cell occurs in a list: the count of its cells that the order does not tell apart from this one
 abbrev pub times : CellParts → List CellParts → ℕ
 times c cells = count_by (λ x. is_eq (cell_order x c)) cells
 
--- each cell occurs in both lists equally often
+-- each cell occurs equally often in both lists
 abbrev pub HoldsAsOften : List CellParts → List CellParts → Type 0
 HoldsAsOften a b = (c : CellParts) → times c b ≡ times c a
 

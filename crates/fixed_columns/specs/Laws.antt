@@ -1,4 +1,4 @@
--- What the laws of this crate say.
+-- The statements of this crate's laws.
 use Rattle.std.specs.Prelude.{◌≡◌, ◌↔◌, ℕ, false, List, String, All}
 use Rattle.std.specs.Cmp.{IsTotalOrder}
 use Rattle.std.specs.declared.alloc.Global.{Global}
@@ -10,7 +10,7 @@ use Rattle.fixed_write.specs.declared.style.Style.{Style}
 use Rattle.line_engine.specs.AnswerText.{AnswerText}
 use Rattle.fixed_columns.specs.Answer.{IsWholeAnswer, decimal_style}
 use Rattle.fixed_columns.specs.Cells.{CellParts, HoldsAsOften, IsCell, IsInOrder, cell_order, format_order}
-use Rattle.fixed_columns.specs.CellsText.{IsCellsText}
+use Rattle.fixed_columns.specs.ColumnText.{IsColumnText}
 use Rattle.fixed_columns.specs.Program.{AsksWithin}
 use Rattle.fixed_columns.specs.Rows.{IsCellsOf, IsFaultOf}
 use Rattle.fixed_columns.specs.declared.fault.CellFault.{CellFault}
@@ -29,16 +29,16 @@ abbrev pub OrderIsOfValues : Type 0
 OrderIsOfValues = (a b : CellParts) → ¬ (order_of a.bits a.format.frac b.bits b.format.frac ≡ Equal)
     → cell_order a b ≡ order_of a.bits a.format.frac b.bits b.format.frac
 
--- and cells of equal values as their formats are
+-- cells of equal values are ordered as their formats are
 abbrev pub TiesAreOfFormats : Type 0
 TiesAreOfFormats = (a b : CellParts) → order_of a.bits a.format.frac b.bits b.format.frac ≡ Equal
     → cell_order a b ≡ format_order a.format b.format
 
--- which is the order in which the least format of a list is chosen
+-- formats are ordered as the choice of the least format of a list orders them
 abbrev pub FormatOrderIsBefore : Type 0
 FormatOrderIsBefore = (f g : FormatParts) → (format_order f g ≡ Less) ↔ IsBefore f g
 
--- a list in order is determined by how often it holds each cell
+-- a list in order is determined by how often it contains each cell
 abbrev pub SortedIsTheOne : Type 0
 SortedIsTheOne = (a b : List CellParts) → HoldsAsOften a b → IsInOrder a → IsInOrder b → a ≡ b
 
@@ -52,31 +52,31 @@ abbrev pub FaultIsTheOne : Type 0
 FaultIsTheOne = (text : List ℕ) (p q : ℕ) (f g : CellFault) → IsFaultOf text p f → IsFaultOf text q g
     → (p ≡ q) × (f ≡ g)
 
--- and not both: a text with a fault is refused, and no other
+-- no text has both cells and a fault, so a text is refused exactly if it has a fault
 abbrev pub NeverBoth : Type 0
 NeverBoth = (text : List ℕ) (cells : List CellParts) (p : ℕ) (f : CellFault) → IsCellsOf text cells
     → ¬ IsFaultOf text p f
 
 -- cells have one text in a style
 abbrev pub ColumnIsTheOne : Type 0
-ColumnIsTheOne = (style : Style) (cells : List CellParts) (a b : List ℕ) → IsCellsText style cells a
-    → IsCellsText style cells b → a ≡ b
+ColumnIsTheOne = (style : Style) (cells : List CellParts) (a b : List ℕ) → IsColumnText style cells a
+    → IsColumnText style cells b → a ≡ b
 
--- in decimal, with spaces before the numbers up to any width, that text reads back as the cells
+-- in decimal, with leading spaces up to any width, that text reads back as the cells
 abbrev pub ColumnReadsBack : Type 0
 ColumnReadsBack = (width : ℕ) (cells : List CellParts) (text : List ℕ) → All IsCell cells
-    → IsCellsText (decimal_style width) cells text → IsCellsOf text cells
+    → IsColumnText (decimal_style width) cells text → IsCellsOf text cells
 
 -- ---- the answer
 -- an input has one answer
 abbrev pub AnswerIsTheOne : Type 0
 AnswerIsTheOne = (input : List ℕ) (a b : AnswerText) → IsWholeAnswer input a → IsWholeAnswer input b → a ≡ b
 
--- arguments ask for one limit
+-- arguments request one limit
 abbrev pub AskedLimitIsTheOne : Type 0
 AskedLimitIsTheOne = (args : List (String Global)) (m n : ℕ) → AsksWithin args m → AsksWithin args n → m ≡ n
 
--- the output reads back as a list that holds each cell of the input as often as the input does, in order
+-- the output reads back as the cells of the input in order, each as often as in the input
 pub record ReadsBackInOrder (input output : List ℕ) : Type 0 where
   pub cells : List CellParts
   pub are : IsCellsOf input cells

@@ -1,6 +1,6 @@
 pub mod Cells
 pub mod Rows
-pub mod CellsText
+pub mod ColumnText
 pub mod Answer
 pub mod Program
 pub mod Laws

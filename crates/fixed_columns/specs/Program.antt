@@ -13,42 +13,42 @@ use Rattle.line_engine.specs.declared.status.Status.{Status}
 use Rattle.line_engine.specs.declared.status.Status.TheVariants.{Usage, WriteFault, NoMemory, TooLong}
 use Rattle.fixed_columns.specs.Answer.{IsWholeAnswer}
 
--- how many bytes an input has at most, where no argument names a limit, and the greatest limit
+-- the longest input, in bytes, if no argument names a limit, and the greatest limit
 abbrev pub most_bytes : ℕ
 most_bytes = 1048576
 
 abbrev pub max_limit : ℕ
 max_limit = 4294967296
 
--- a name and a number in decimal name this limit
+-- a name and a decimal number name this limit
 pub record NamesLimit (name number : List ℕ) (limit : ℕ) : Type 0 where
   pub named : name ≡ codes "limit"
   pub numbered : number ≡ decimal limit
   pub some : 1 ≤ limit
   pub most : limit ≤ max_limit
 
--- the arguments ask for the column of an input of at most this many bytes
+-- the arguments request the column of an input of at most `limit` bytes
 abbrev pub AsksWithin : List (String Global) → ℕ → Type 0
 AsksWithin [] limit = limit ≡ most_bytes
 AsksWithin (name ∷ []) limit = ⊥
 AsksWithin (name ∷ number ∷ []) limit = NamesLimit (string_bytes name) (string_bytes number) limit
 AsksWithin (name ∷ number ∷ more ∷ others) limit = ⊥
 
--- the arguments ask for nothing
+-- the arguments request no column
 abbrev pub IsUsageFault : List (String Global) → Type 0
 IsUsageFault args = (limit : ℕ) → ¬ AsksWithin args limit
 
--- what is written for such arguments
+-- the output for such arguments
 abbrev pub usage_line : List ℕ
 usage_line = codes "usage: columns_tool\n"
 
--- all that `run_columns` promises of a run by these arguments that ended so
+-- all that `run_columns` promises of a run with these arguments and this status
 pub record HasColumnsRun (args : List (String Global)) (before after : Outside) (status : Status) : Type 0 where
-  -- the answer to an input within the limit is written where no read and no write failed, or there was no memory
+  -- the answer to an input within the limit is written if no read and no write failed, or memory ran out
   pub output : (limit : ℕ) → AsksWithin args limit → (input : List ℕ) → before.left ≡ Some input → length input ≤ limit
       → ¬ HasFailed before.read_failures after.read_failures → ¬ HasFailed before.write_failures after.write_failures
       → (status ≡ NoMemory) ⊎ WritesAnswer IsWholeAnswer input before.written after.written status
-  -- and a longer one is reported
+  -- a longer input is reported, or memory ran out
   pub too_long : (limit : ℕ) → AsksWithin args limit → (input : List ℕ) → before.left ≡ Some input
       → limit < length input
       → ¬ HasFailed before.read_failures after.read_failures → ¬ HasFailed before.write_failures after.write_failures
@@ -56,19 +56,19 @@ pub record HasColumnsRun (args : List (String Global)) (before after : Outside) 
   -- what was taken and what was written, by status
   pub run : (limit : ℕ) → AsksWithin args limit
       → HasWholeRun IsWholeAnswer limit before.left after.left before.written after.written status
-  -- a prefix of the answer, where a write failed
+  -- if a write failed, a prefix of the answer was written
   pub prefix_on_write_fault : (limit : ℕ) → AsksWithin args limit → status ≡ WriteFault
       → (input : List ℕ) (answer : AnswerText) → before.left ≡ Some input
       → IsWholeAnswer input answer → AppendsPrefix before.written after.written answer.text
-  -- what the source was asked for
+  -- what reads requested of the source
   pub asked : (limit : ℕ) → AsksWithin args limit → AskedWithin limit before.asked after.asked
-  -- other arguments
+  -- arguments that request no column are answered with the usage line
   pub usage : IsUsageFault args
       → WritesText usage_line Usage before.written after.written before.write_failures after.write_failures status
   pub usage_only : status ≡ Usage → IsUsageFault args
   -- which count of failures rose, by status
   pub failures : HasFailures before.read_failures after.read_failures before.write_failures after.write_failures status
-  -- a run by other arguments reads nothing
+  -- a run with such arguments reads nothing
   pub untouched : IsUsageFault args → ReadsNothing before after
-  -- a run that ended before its input did, or for want of memory, wrote nothing
+  -- a run that ended before its input did, or for lack of memory, wrote nothing
   pub unwritten : EndsBeforeWriting status → WritesNothing before after

@@ -20,16 +20,16 @@ use Rattle.fixed_columns.specs.declared.fault.CellsError.{CellsError}
 use Rattle.fixed_columns.specs.declared.fault.CellsError.TheVariants.{Refused, NoMemory}
 
 -- ---- a line
--- a line from its first byte that is no space
+-- a line from its first byte that is not a space
 unfoldable pub after_spaces : List ℕ → List ℕ
 after_spaces [] = []
 after_spaces (b ∷ bytes) = if b == space then after_spaces bytes else b ∷ bytes
 
--- after the leading spaces, the line is split at its first space
+-- the line, without its leading spaces, is split at its first space
 abbrev pub HasFields : List ℕ → List ℕ → List ℕ → Type 0
 HasFields line numeral word = IsSplit space (after_spaces line) numeral word
 
--- the decimal numeral is read as these bits of the format: the nearest number, ties to even, which is in range
+-- the decimal numeral is read as these bits of the format: the nearest number, ties to even, in range
 pub record IsNumeralOf (f : FormatParts) (numeral : List ℕ) (bits : ℤ) : Type 0 where
   pub parts : Parts
   pub has : HasNumeral Dec numeral parts
@@ -50,7 +50,7 @@ pub record Spells (line : List ℕ) (c : CellParts) : Type 0 where
   pub bits : IsNumeralOf c.format numeral c.bits
 
 -- ---- the fault of a line
--- the word after the numeral is no format word
+-- the word after the numeral does not name a format
 pub record HasBadFormat (line : List ℕ) : Type 0 where
   pub numeral : List ℕ
   pub word : List ℕ
@@ -66,20 +66,20 @@ pub record HasBadNumeral (line : List ℕ) (kind : ParseErrorKind) : Type 0 wher
   pub named : IsFormatWord word format
   pub refused : IsRefusedNumeral format numeral kind
 
--- the line has the fault, and none before it in the order
+-- the line has this fault, and none that is checked earlier
 abbrev pub HasFault : List ℕ → CellFault → Type 0
 HasFault line MissingField = count_of space (after_spaces line) ≡ 0
 HasFault line BadFormat = HasBadFormat line
 HasFault line (BadNumeral kind) = HasBadNumeral line kind
 
 -- ---- a text
--- the lines spell the cells, one each, in order
+-- the lines spell the cells, one for each and in order
 abbrev pub SpellAll : List (List ℕ) → List CellParts → Type 0
 SpellAll [] cells = cells ≡ []
 SpellAll (line ∷ lines) cells = (c : CellParts) × (more : List CellParts) × Spells line c × (cells ≡ c ∷ more)
     × SpellAll lines more
 
--- the first fault of the lines, which are numbered from n on, is this one, on line p
+-- the first fault of the lines, numbered from `n` on, is this one, on line `p`
 abbrev pub FailAt : ℕ → List (List ℕ) → ℕ → CellFault → Type 0
 FailAt n [] p fault = ⊥
 FailAt n (line ∷ lines) p fault = (HasFault line fault × (p ≡ n))
@@ -89,11 +89,11 @@ FailAt n (line ∷ lines) p fault = (HasFault line fault × (p ≡ n))
 abbrev pub IsCellsOf : List ℕ → List CellParts → Type 0
 IsCellsOf text cells = SpellAll (lines text) cells
 
--- the first line of a text with a fault, from 1, and its first fault
+-- the first line of a text, from 1, with a fault, and the first fault of that line
 abbrev pub IsFaultOf : List ℕ → ℕ → CellFault → Type 0
 IsFaultOf text p fault = FailAt 1 (lines text) p fault
 
--- what an error says of a text
+-- the meaning of an error of a text
 abbrev pub IsErrorOf : List ℕ → CellsError → Type 0
 IsErrorOf text (Refused p fault) = IsFaultOf text p fault
 IsErrorOf text NoMemory = Unit {0}

@@ -40,8 +40,8 @@ impl Model for Cell {
 }
 
 impl Cell {
-    /// The cell of a format with these bits. `None` exactly where the format's width isn't 8, 16, 32 or 64, or the bits
-    /// are out of its range.
+    /// Returns the cell of a format with these bits. `None`: the format's width is not 8, 16, 32 or 64, or the bits are
+    /// out of its range.
     pub fn new(format: Format, bits: i128) -> Option<Cell>
         ensures exists { IsSome result ↔ IsCell (record { format = format; bits = bits }) }
         ensures parts { IfSome result (λ c. c ≡ record { format = format; bits = bits }) }
@@ -53,7 +53,7 @@ impl Cell {
         }
     }
 
-    /// The cell of a format with these bits, of which a caller knows that there is one.
+    /// Returns the cell of a format with these bits, which must be one.
     pub(crate) fn within(format: Format, bits: i128) -> Cell
         requires { IsCell (record { format = format; bits = bits }) }
         ensures { result ≡ record { format = format; bits = bits } }
@@ -61,7 +61,7 @@ impl Cell {
         Cell { format, bits }
     }
 
-    /// The cell of a number, with its format and its bits.
+    /// Returns the cell of a number, with its format and its bits.
     pub fn of<I: Inner, const FRAC: u32>(value: Fixed<I, FRAC>) -> Cell
         requires { FRAC ≤ I.BITS }
         ensures { result ≡ cell_of I.SIGNED I.BITS FRAC (I.number value) }
@@ -75,14 +75,14 @@ impl Cell {
         }
     }
 
-    /// The format.
+    /// Returns the format.
     pub fn format(self) -> Format
         ensures { result ≡ self.format }
     {
         self.format
     }
 
-    /// The bits: the value is this many ulps of the format.
+    /// Returns the bits: the value is this many ulps of the format.
     pub fn bits(self) -> i128
         ensures bits { result ≡ self.bits }
         ensures cell { IsCell self }
@@ -92,7 +92,7 @@ impl Cell {
     }
 }
 
-/// The order of formats: by width, then unsigned before signed, then by fraction length.
+/// Compares formats: by width, then unsigned before signed, then by fraction length.
 fn compare_formats(a: Format, b: Format) -> Ordering
     ensures { result ≡ format_order a b }
 {
@@ -114,7 +114,7 @@ impl Ord for Cell {
 
     ghost matches_eq = { λ a b. one_answer _ _ (Prim.search (comparing, rules)) (cell_decides a b) };
 
-    // Cells of one format, which most columns have alone, are ordered as their bits.
+    // Cells of one format, and most columns have only one, are ordered by their bits.
     fn cmp(&self, other: &Cell) -> Ordering {
         let (format, other_format) = (self.format(), other.format());
         match compare_formats(format, other_format) {

@@ -13,7 +13,7 @@ use line_engine::first_line;
 use std::alloc::Global;
 use std::marker::Model;
 
-/// Cells in a list. It is seen as the list of their formats and bits.
+/// A list of cells. Contracts see the list of their formats and bits.
 #[derive(Drop)]
 pub struct Cells {
     cells: Vec<Cell>,
@@ -29,21 +29,21 @@ impl Model for Cells {
 }
 
 impl Cells {
-    /// How many cells there are.
+    /// Returns how many cells there are.
     pub fn len(&self) -> usize
         ensures { result ≡ length self.now }
     {
         self.cells.len()
     }
 
-    /// The cell with this number, from 0. `None` exactly where there are no more than that.
+    /// Returns the cell with this index, from 0. `None`: there are at most `i` cells.
     pub fn get(&self, i: usize) -> Option<Cell>
         ensures { result ≡ slice_get self.now i }
     {
         self.cells.get(i).copied()
     }
 
-    /// Sorts the cells. It takes no memory.
+    /// Sorts the cells without an allocation.
     pub fn sort(&mut self)
         ensures same { HoldsAsOften self.old self.new }
         ensures order { IsInOrder self.new }
@@ -52,13 +52,13 @@ impl Cells {
     }
 }
 
-/// The cells of a text, in the order of its lines.
+/// Returns the cells of a text, in the order of its lines.
 ///
-/// Spaces at the start of a line are passed over. What follows is a decimal numeral, a space and a format word.
+/// Spaces at the start of a line are passed over. After them come a decimal numeral, a space and a format word.
 ///
 /// # Errors
 ///
-/// The first line with a fault is reported with its number and its first fault. It may find no memory.
+/// The first line with a fault is reported with its number and its first fault. There may be no memory.
 pub fn read_cells(alloc: Global, text: &[u8]) -> Result<Cells, CellsError>
     ensures cells { IfOk result (λ t. IsCellsOf text.now t) }
     ensures refused { IfErr result (λ error. IsErrorOf text.now error) }

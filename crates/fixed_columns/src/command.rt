@@ -1,4 +1,4 @@
-//! What the arguments of the program ask for.
+//! The arguments of the program.
 
 ghost use Rattle.std.specs.Prelude.{◌≡◌, ◌≤◌, ℕ, MatchOption, IfSome, decimal};
 ghost use Rattle.std.specs.String.{string_bytes};
@@ -7,7 +7,7 @@ ghost use Rattle.fixed_columns.specs.Program.{AsksWithin, IsUsageFault};
 use itoa::Buffer;
 use line_engine::{MAX_LIMIT, MAX_WHOLE};
 
-/// The number from 1 to 4,294,967,296 that the word is in decimal, without a leading zero. None where it is not one.
+/// Returns the number from 1 to 4,294,967,296 that `word` writes in decimal, without a leading zero, if it is one.
 fn limit_word(word: &str) -> Option<u64>
     ensures number { MatchOption result ((n : ℕ) → 1 ≤ n → n ≤ 4294967296
         → ¬ (word.now ≡ decimal n)) (λ n. word.now ≡ decimal n) }
@@ -24,7 +24,7 @@ fn limit_word(word: &str) -> Option<u64>
     }
 }
 
-/// How many bytes of input the arguments ask for at most. None where they ask for nothing.
+/// Returns the most bytes of input that the arguments allow. `None`: the arguments are invalid.
 pub fn asked_limit(args: &[String]) -> Option<u64>
     ensures limit { MatchOption result (IsUsageFault args.now) (λ n. AsksWithin args.now n) }
     ensures most { IfSome result (λ n. n ≤ 4294967296) }

@@ -2,12 +2,12 @@
 
 use fixed_numeral::ParseFixedError;
 
-/// The fault of a line, in the order in which they are looked for.
+/// The fault of a line, in the order of the checks.
 #[derive(Clone, Copy, Debug, PartialEq, Eq)]
 pub enum CellFault {
     /// No space after the leading spaces.
     MissingField,
-    /// What follows the space after the numeral is not a format word.
+    /// The text after the space after the numeral is not a format word.
     BadFormat,
     /// The numeral is refused for the format, for this reason.
     BadNumeral(ParseFixedError),

@@ -25,17 +25,17 @@ pub fn order_is_total()
     ensures { OrderIsTotal }
 {}
 
-/// Cells that the order does not tell apart are one: they have one format and the same bits.
+/// Cells that the order does not distinguish are one: they have one format and the same bits.
 pub fn equal_is_same()
     ensures { EqualIsSame }
 {}
 
-/// Cells of different values are ordered as `compare` orders the values.
+/// Cells of different values are in the order of `compare` on the values.
 pub fn order_is_of_values()
     ensures { OrderIsOfValues }
 {}
 
-/// Cells of equal values are ordered as their formats.
+/// Cells of equal values are in the order of their formats.
 pub fn ties_are_of_formats()
     ensures { TiesAreOfFormats }
 {}
@@ -60,7 +60,7 @@ pub fn fault_is_the_one()
     ensures { FaultIsTheOne }
 {}
 
-/// A text that has cells has no fault. So a text is refused exactly where it has a fault.
+/// A text that has cells has no fault. So a text is refused exactly if it has a fault.
 pub fn never_both()
     ensures { NeverBoth }
 {}
@@ -70,7 +70,7 @@ pub fn column_is_the_one()
     ensures { ColumnIsTheOne }
 {}
 
-/// The column of cells in decimal, to the right in a field of any width, reads back as the cells.
+/// The column of cells in decimal, aligned to the right in a field of any width, reads back as the cells.
 pub fn column_reads_back()
     ensures { ColumnReadsBack }
 {
@@ -83,13 +83,12 @@ pub fn answer_is_the_one()
     ensures { AnswerIsTheOne }
 {}
 
-/// Arguments ask for at most one limit.
+/// Arguments name at most one limit.
 pub fn asked_limit_is_the_one()
     ensures { AskedLimitIsTheOne }
 {}
 
-/// An answer without a fault reads back as a list that holds each cell of the input as often as the input does, in
-/// order.
+/// An answer without a fault reads back as a list in order that has each cell of the input as often as the input.
 pub fn answer_reads_back()
     ensures { AnswerReadsBack }
 {

@@ -1,12 +1,12 @@
 //! Columns of fixed-point numbers of mixed formats, in the order of their values.
 //!
 //! A line is a decimal numeral, a space and a format (`row`): a `Cell`. `cells` reads a text line by line and keeps its
-//! cells, and sorts them; `cells_text` writes them in one aligned column, which reads back as the same cells.
+//! cells, and sorts them; `column_text` writes them in one aligned column, which reads back as the same cells.
 #![tactic(auto)]
 
 pub mod cell;
 pub mod cells;
-pub mod cells_text;
+pub mod column_text;
 mod command;
 pub mod fault;
 pub mod laws;
@@ -17,7 +17,7 @@ mod uncounted;
 
 pub use cell::Cell;
 pub use cells::{Cells, read_cells};
-pub use cells_text::{CellsText, write_cells};
+pub use column_text::{ColumnText, write_cells};
 pub use fault::{CellFault, CellsError};
 pub use program::run_columns;
 pub use rule::ColumnsRule;

@@ -1,4 +1,4 @@
-//! The program: what its arguments ask for.
+//! The program and its arguments.
 
 ghost use Rattle.std.specs.Prelude.{◌≡◌, ◌≤◌, ◌<◌, ◌⊎◌, List, ℕ, Some, length};
 ghost use Rattle.line_engine.specs.AnswerText.{AnswerText};
@@ -17,14 +17,14 @@ use line_engine::{Sink, Source, Status, run_whole, write_text};
 use std::alloc::Global;
 use std::sync::ledger::Ledger;
 
-/// What is written for arguments that ask for nothing.
+/// The usage line.
 const USAGE: &[u8] = b"usage: columns_tool\n";
 
 /// Answers an input with the column of its cells in order, or with its first fault.
 ///
 /// Without arguments the input has at most 1,048,576 bytes, and with `limit N` at most N, from 1 to 4,294,967,296. N is
-/// in decimal, without a sign or a leading zero. For other arguments it writes the usage line and reads nothing. Memory
-/// for 1,048,577 bytes is taken before the first read, more as a longer input grows, and some for the cells and the
+/// in decimal, without a sign or a leading zero. For other arguments it writes the usage line and reads nothing. It
+/// allocates 1,048,577 bytes before the first read, more as a longer input grows, and memory for the cells and the
 /// answer.
 pub fn run_columns<S: Source, K: Sink, L: Ledger>(
     alloc: Global,
@@ -33,7 +33,7 @@ pub fn run_columns<S: Source, K: Sink, L: Ledger>(
     sink: &mut K,
     steps: &mut Steps<L>,
 ) -> Status
-    // For every input within the limit, with no failed read or write, the run writes the column of its cells in order
+    // For every input within the limit, without a failed read or write, the run writes the column of its cells in order
     // or its first fault, and nothing else; or there was no memory.
     ensures output { (limit : ℕ) → AsksWithin words.now limit → (input : List ℕ) → S.left source.old ≡ Some input
         → length input ≤ limit
@@ -49,7 +49,7 @@ pub fn run_columns<S: Source, K: Sink, L: Ledger>(
         → ¬ HasFailed (K.failures sink.old) (K.failures sink.new)
         → (result ≡ Status.NoMemory) ⊎ (result ≡ Status.TooLong) }
 
-    // What was taken and what was written, by status, also after a failed read or write.
+    // The bytes read and written, by status, also after a failed read or write.
     ensures run { (limit : ℕ) → AsksWithin words.now limit
         → HasWholeRun IsWholeAnswer limit (S.left source.old) (S.left source.new) (K.written sink.old)
         (K.written sink.new) result }
@@ -57,15 +57,14 @@ pub fn run_columns<S: Source, K: Sink, L: Ledger>(
         → (input : List ℕ) (answer : AnswerText) → S.left source.old ≡ Some input
         → IsWholeAnswer input answer → AppendsPrefix (K.written sink.old) (K.written sink.new) answer.text }
 
-    // A run that ended before its input did, or for want of memory, left the sink as it was.
+    // A run with a failed read, an input that is too long or no memory left the sink as it was.
     ensures unwritten { EndsBeforeWriting result → sink.new ≡ sink.old }
 
-    // What the source was asked for: no read asked for more than the limit and one byte less those taken, or for more
-    // than 4,096.
+    // No read requested more than the limit and one byte less those taken, or more than 4,096.
     ensures asked { (limit : ℕ) → AsksWithin words.now limit
         → AskedWithin limit (S.asked source.old) (S.asked source.new) }
 
-    // Other arguments.
+    // Invalid arguments.
     ensures usage { IsUsageFault words.now
         → WritesText usage_line Status.Usage (K.written sink.old) (K.written sink.new) (K.failures sink.old)
         (K.failures sink.new) result }

@@ -1,4 +1,4 @@
-//! What a line spells.
+//! Reads the cell of a line.
 
 ghost use Rattle.std.specs.Prelude.{◌≡◌, IfOk, IfErr};
 ghost use Rattle.fixed_bits.specs.Formats.{IsTypeFormat};
@@ -11,7 +11,7 @@ use fixed_bits::{Format, Policy};
 use fixed_numeral::{ParseErrorKind, ParseFixedError};
 use fixed_respell::{format_word, split_once};
 
-/// A line from its first byte that is not a space.
+/// Returns a line from its first byte other than a space.
 fn without_leading_spaces(line: &[u8]) -> &[u8]
     ensures { result.now ≡ after_spaces line.now }
 {
@@ -23,7 +23,7 @@ fn without_leading_spaces(line: &[u8]) -> &[u8]
     &line[line.len()..]
 }
 
-/// The cell of a format that a decimal numeral is read as.
+/// Returns the cell of a format that a decimal numeral is read as.
 fn numeral_cell(numeral: &[u8], format: Format) -> Result<Cell, ParseFixedError>
     requires { IsTypeFormat format.width format.frac }
     ensures cell { IfOk result (λ c. (c.format ≡ format) × IsNumeralOf format numeral.now c.bits) }
@@ -38,7 +38,7 @@ fn numeral_cell(numeral: &[u8], format: Format) -> Result<Cell, ParseFixedError>
     }
 }
 
-/// The cell that a line spells, or the line's first fault.
+/// Returns the cell that a line spells, or the line's first fault.
 pub fn read_row(line: &[u8]) -> Result<Cell, CellFault>
     ensures cell { IfOk result (λ c. Spells line.now c) }
     ensures refused { IfErr result (λ fault. HasFault line.now fault) }

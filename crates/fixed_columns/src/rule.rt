@@ -1,11 +1,11 @@
-//! The rule of the program: a text is answered with the column of its cells in order.
+//! The rule of the program: it answers a text with the column of its cells in order.
 
 ghost use Rattle.std.specs.Prelude.{◌≡◌, ◌++◌, IfOk, OnOk};
 ghost use Rattle.fixed_columns.specs.Answer.{IsWholeAnswer, column_style, fault_line, fault_message};
 ghost use Rattle.fixed_columns.specs.Lemmas.ColumnsLemmas.{answer_one};
 
 use crate::cells::read_cells;
-use crate::cells_text::write_cells;
+use crate::column_text::write_cells;
 use crate::fault::{CellFault, CellsError};
 use fixed_steps::Steps;
 use fixed_write::{Notation, Style};
@@ -19,10 +19,10 @@ use text_buffer::NoMemory;
 #[derive(Clone, Copy, Debug, PartialEq, Eq)]
 pub struct ColumnsRule;
 
-/// How many characters a number has at least in a column.
+/// The least width of a number in a column, in characters.
 const COLUMN_WIDTH: u16 = 24;
 
-/// How a column shows a number: the default text, to the right of its spaces.
+/// Returns the style of a number in a column: the default text, aligned to the right.
 fn column_style() -> Style
     ensures { result ≡ column_style }
 {
@@ -32,7 +32,7 @@ fn column_style() -> Style
     }
 }
 
-/// The message of a fault.
+/// Returns the message of a fault.
 fn message(fault: CellFault) -> &'static [u8]
     ensures { result.now ≡ fault_message fault }
 {
@@ -43,7 +43,7 @@ fn message(fault: CellFault) -> &'static [u8]
     }
 }
 
-/// What is written for a line with a fault.
+/// Returns the text for a line with a fault.
 fn fault_text(alloc: Global, line: u64, fault: CellFault) -> Result<Vec<u8>, AllocError>
     ensures { IfOk result (λ text. text.items ≡ fault_line line fault) }
 {

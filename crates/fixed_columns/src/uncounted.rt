@@ -1,5 +1,4 @@
-//! The reading of a numeral with a counter of its own: a column is an answer to a whole input, and no clause bounds its
-//! steps.
+//! Reads numerals with its own counter: a column is an answer to a whole input, and no clause bounds its steps.
 
 ghost use Rattle.std.specs.Prelude.{◌≡◌, ◌<◌, IfOk};
 ghost use Rattle.fixed_bits.specs.declared.mode.ReadMode.TheVariants.{NearestEven};
@@ -14,7 +13,7 @@ use fixed_steps::Steps;
 use std::marker::Brand;
 use std::sync::ledger::{Blank, Ledger};
 
-/// The reading of a decimal numeral to the nearest ulp, ties to even, over a ledger that no other counter uses.
+/// Reads a decimal numeral to the nearest ulp, ties to even, over a ledger that no other counter uses.
 fn read_decimal_over<L: Ledger>(
     numeral: &[u8],
     format: Format,
@@ -36,7 +35,7 @@ fn read_decimal_over<L: Ledger>(
     )
 }
 
-/// The reading of a decimal numeral to the nearest ulp, ties to even.
+/// Reads a decimal numeral to the nearest ulp, ties to even.
 pub(crate) fn read_decimal_uncounted(
     numeral: &[u8],
     format: Format,

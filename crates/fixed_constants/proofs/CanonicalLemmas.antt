@@ -1,4 +1,4 @@
--- Texts that are written piece by piece.
+-- Canonical texts, written piece by piece.
 use Rattle.std.proofs.Common.{◌≡◌, ℕ, List, [], ◌∷◌, ◌++◌, ℤ, pos, false, unsigned_abs, sym, ap, ◌∙◌, append_assoc}
 use Rattle.std.specs.Fmt.{sign_text}
 use Rattle.std.specs.Int.{is_negative}

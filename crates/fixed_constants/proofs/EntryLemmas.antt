@@ -1,4 +1,4 @@
--- The constants of a text are entries with different names, and the canonical text of such entries has them.
+-- The constants of a text are entries with different names, and the canonical text of entries declares them.
 use Rattle.std.proofs.Common.{◌≡◌, ℕ, ◌+◌, ◌-◌, ◌<◌, ◌≤◌, ◌^◌, ◌⊎◌, Bool, true, false, eqb, get_or, List, [], ◌∷◌, ◌++◌, length, map, ℤ, pos, unsigned_abs, refl, sym, ap, ◌∙◌, subst, arith, inl, inr, append_assoc, All, Contains}
 use Rattle.std.specs.Prelude.{Ok}
 use Rattle.std.specs.Fmt.{decimal, sign_text}
@@ -80,7 +80,7 @@ visible_literal c g =
     All-append IsVisible (sign_text (is_negative c)) (hex_prefix ++ body) (visible_sign (is_negative c)) (visible_by 48 (120 ∷ body) (omega arith) (visible_by 120 body (omega arith) shown))
 
 -- ---- a canonical line
--- a name begins no line that is passed over
+-- a line that starts with a name is not passed over
 not_passed : (name rest : List ℕ) → IsName name → IsPassedOver (name ++ rest) → ⊥
 not_passed [] rest is passed = let some = is.some in omega arith
 not_passed (b ∷ bs) rest is (inl none) = absurd cc
@@ -108,7 +108,7 @@ spells_itself reads c is = record {
   name = refl;
 }
 
--- no byte of a canonical line is a newline
+-- bytes of a canonical line are not newlines
 abbrev pub IsLate : ℕ → Type 0
 IsLate b = 32 ≤ b
 
@@ -138,8 +138,8 @@ canonical_lines first (c ∷ cs) are =
     ap lines (append_assoc (entry_line c) (10 ∷ []) (canonical_text cs))
     ∙ (first (entry_line c) (canonical_text cs) (no_newline c are.0) ∙ ap (λ l. entry_line c ∷ l) (canonical_lines first cs are.2))
 
--- ---- they declare the constants
--- no line names one of the constants
+-- ---- the lines declare the constants
+-- none of the lines `before` names one of the constants
 abbrev pub AreNew : List (List ℕ) → List ConstantParts → Type 0
 AreNew before t = (name : List ℕ) → HasName name t → (p : ℕ) → NamedFrom 1 before name p → ⊥
 
@@ -160,7 +160,7 @@ canonical_declares first reads t are =
     let D : List (List ℕ) → Type 0 = λ ls. Declare [] ls t in
     subst D (sym (canonical_lines first t are)) (declare_canonical reads [] t are (λ name has p h. h))
 
--- ---- what a text declares
+-- ---- the constants of a text are entries
 pub spelled_entry : (line : List ℕ) (c : ConstantParts) → Spells line c → IsEntry c
 spelled_entry line c s =
     let N : List ℕ → Type 0 = λ n. IsName n in

@@ -1,4 +1,4 @@
--- Numbers of C, reserved names, and what an input is answered in a form.
+-- Numbers of C, reserved names, and the answer to an input in a form.
 use Rattle.std.proofs.Common.{◌≡◌, ◌↔◌, ℕ, ◌+◌, ◌-◌, ◌^◌, ◌<◌, ◌≤◌, eqb, eq-eqb, Bool, true, false, IsTrue, Option, Some, None, List, [], ◌∷◌, ◌++◌, ℤ, unsigned_abs, refl, sym, ◌∙◌, subst, arith, inl, inr}
 use Rattle.std.specs.Int.{is_negative}
 use Rattle.std.specs.Prelude.{is_some}
@@ -45,7 +45,7 @@ among_by words word needle None b same found is = (λ holds. absurd (false≢tru
     never : IsAmong words word → ⊥
     never h = let O : List ℕ → Type 0 = λ n. OccursAt words n h.0 in let at = subst O (sym same) h.1 in let fits = at.fits in found h.0 (omega arith) (omega arith) at
 
--- ---- a line with these fields
+-- ---- the name on a line
 same_name : (line : List ℕ) (x y : Fields line) → y.name ≡ x.name
 same_name line x y = (fields_one line y x).name
 
@@ -61,7 +61,7 @@ named_reserved form guard line x b named is = (there, back)
 pub unnamed_reserved : (form : Form) (guard line : List ℕ) (x : Fields line) (b : Bool) → (IsName x.name → ⊥) → b ≡ false → IsTrue b ↔ HasReserved form guard line
 unnamed_reserved form guard line x b unnamed fails = (λ holds. absurd (false≢true (sym fails ∙ holds)), λ h. let N : List ℕ → Type 0 = λ n. IsName n in absurd (unnamed (subst N (same_name line x h.fields) h.name)))
 
--- ---- the first line with a reserved name
+-- ---- the search for the first line with a reserved name
 pub record SearchedTo (form : Form) (guard text rest : List ℕ) (number : ℕ) : Type 0 where
   pub there : (p : ℕ) → ReservedFrom (number + 1) form guard (lines rest) p → IsReservedOn form guard text p
   pub back : (p : ℕ) → IsReservedOn form guard text p → ReservedFrom (number + 1) form guard (lines rest) p

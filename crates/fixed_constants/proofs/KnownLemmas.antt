@@ -1,4 +1,4 @@
--- The map of names, and what a line adds to it.
+-- The map of names, and what each line adds to it.
 use Rattle.std.proofs.Common.{◌≡◌, ℕ, ◌+◌, Bool, true, false, cond, List, [], ◌∷◌, ◌++◌, length, refl, sym, ap, ◌∙◌, subst, arith, inl, inr, append_assoc, Bor}
 use Rattle.std.specs.Prelude.{Option, Some, None, bytes_eq}
 use Rattle.std.proofs.lemmas.Bool.{false≢true}
@@ -11,7 +11,7 @@ use Rattle.fixed_constants.specs.Constants.{ConstantParts, Declare, FailAt, HasF
 use Rattle.fixed_constants.specs.Inner.Known.{AddsConstant, AddsLine, IsLineOf, Knows, line_of}
 use Rattle.fixed_constants.specs.declared.fault.ConstantFault.{ConstantFault}
 
--- ---- names of lines
+-- ---- the names that lines declare
 pub named_longer : (n : ℕ) (before : List (List ℕ)) (line name : List ℕ) (p : ℕ) → NamedFrom n before name p → NamedFrom n (before ++ line ∷ []) name p
 named_longer n [] line name p h = absurd h
 named_longer n (l ∷ ls) line name p (inl h) = inl h
@@ -29,7 +29,7 @@ named_here n (l ∷ ls) line name p none h e =
     let never : Names l name → ⊥ = λ names. none n (inl (names, refl)) in
     inr (never, named_here (n + 1) ls line name p (λ q at. none q (inr (never, at))) h (omega (arith, e)))
 
--- ---- one line more
+-- ---- one more line
 still : (before : List (List ℕ)) (line name : List ℕ) (o : Option ℕ) → (Names line name → ⊥) → IsLineOf before name o → IsLineOf (before ++ line ∷ []) name o
 still before line name None never h = λ p at. h p (named_back 1 before line name p never at)
 still before line name (Some p) never h = named_longer 1 before line name p h
@@ -40,7 +40,7 @@ knows_passed before line m passed knows name = still before line name (line_of m
 differ : (name x : List ℕ) → bytes_eq name x ≡ false → name ≡ x → ⊥
 differ name x e same = false≢true (sym e ∙ (bytes_eq-Decides name x).1 same)
 
--- a new name is declared on the line
+-- a line with a new name declares it
 pub knows_declared : {S : Type 0} (before : List (List ℕ)) (line name : List ℕ) (number : ℕ) (m n : HashMap (Bor (List ℕ)) ℕ S) → Names line name → Knows before m → None ≡ line_of m name → number ≡ length before + 1
     → ((q : List ℕ) → line_of n q ≡ update bytes_eq (line_of m) name (Some number) q) → Knows (before ++ line ∷ []) n
 knows_declared before line name number m n names knows old place updates q =
@@ -56,7 +56,7 @@ knows_declared before line name number m n names knows old place updates q =
         subst N same (named_here 1 before line name number none names (omega (arith, place)))
     by_test false e = still before line q (line_of m q) (λ other. differ name q e (names_one line name q names other)) (knows q)
 
--- ---- what a line adds, to all lines from there on
+-- ---- one line, and the lines after it
 pub record Continues (before : List (List ℕ)) (line : List ℕ) (old new : List ConstantParts) : Type 0 where
   pub declare : (rest : List (List ℕ)) (all : List ℕ) (more : List ConstantParts) → ((u : List ConstantParts) → Declare before (line ∷ rest) u → Declare [] (lines all) (old ++ u)) → Declare (before ++ line ∷ []) rest more → Declare [] (lines all) (new ++ more)
   pub fail : (rest : List (List ℕ)) (p : ℕ) (fault : ConstantFault) → FailAt (before ++ line ∷ []) rest p fault → FailAt before (line ∷ rest) p fault
@@ -78,11 +78,11 @@ pub line_knows : {S : Type 0} (before : List (List ℕ)) (line : List ℕ) (old 
 line_knows before line old new known (inl h) = h.2
 line_knows before line old new known (inr h) = h.knows
 
--- a fault of the line is the first fault from there on
+-- a fault of the line is the first fault from this line on
 pub fault_here : (before rest : List (List ℕ)) (line : List ℕ) (number p : ℕ) (fault : ConstantFault) → HasFault before line fault → p ≡ number → number ≡ length before + 1 → FailAt before (line ∷ rest) p fault
 fault_here before rest line number p fault has same place = inl (has, same ∙ place)
 
--- a name that the map does not have is declared on none of the lines
+-- none of the lines declares a name that is not in the map
 pub not_named : {S : Type 0} (before : List (List ℕ)) (name : List ℕ) (m : HashMap (Bor (List ℕ)) ℕ S) → Knows before m → None ≡ line_of m name → (p : ℕ) → IsNamedOn before name p → ⊥
 not_named before name m knows old = let H : Option ℕ → Type 0 = λ o. IsLineOf before name o in subst H (sym old) (knows name)
 

@@ -9,3 +9,4 @@ mod OwnAnswerLemmas
 mod FormLemmas
 mod NamedLawLemmas
 mod ProgramLemmas
+mod PlainLemmas

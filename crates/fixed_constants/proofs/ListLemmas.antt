@@ -1,4 +1,4 @@
--- What is left of a list at a place.
+-- The elements of a list from an index on, and what was written or searched before it.
 use Rattle.std.proofs.Common.{◌≡◌, ℕ, List, [], ◌∷◌, ◌++◌, drop, slice_get, zero, suc, refl, sym, ap, ◌∙◌, Some, None, inl, inr, append_assoc, append-nil, length, arith}
 use Rattle.fixed_constants.specs.Canonical.{canonical_text, entry_text}
 use Rattle.fixed_constants.specs.Constants.{ConstantParts, HasName, IsFirstNamed}
@@ -24,7 +24,7 @@ text_more all i c old new at before is =
 pub text_all : (all : List ConstantParts) (i : ℕ) (text : List ℕ) → slice_get all i ≡ None → canonical_text all ≡ text ++ canonical_text (drop i all) → text ≡ canonical_text all
 text_all all i text at before = sym (before ∙ (ap (λ t. text ++ canonical_text t) (drop_none all i at) ∙ append-nil text))
 
--- ---- a name among the constants from a place on
+-- ---- the search for a name among the constants
 pub record FindsSame (name : List ℕ) (all rest : List ConstantParts) : Type 0 where
   pub found : (c : ConstantParts) → IsFirstNamed name rest c → IsFirstNamed name all c
   pub none : HasName name all → HasName name rest

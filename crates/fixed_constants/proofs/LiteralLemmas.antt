@@ -1,4 +1,4 @@
--- A literal in its one form is the styled text of its value, and is read as the bits that it was written for.
+-- A literal in canonical form is the styled text of its value and reads back as the same bits.
 use Rattle.std.proofs.Common.{◌≡◌, ℕ, zero, suc, ◌+◌, ◌-◌, ◌≤◌, ◌==◌, Bool, true, false, eqb, IsTrue, Option, Some, None, IfSome, List, [], ◌∷◌, ◌++◌, length, map, All, ℤ, pos, negsuc, neg_ℤ, unsigned_abs, refl, sym, ap, ◌∙◌, subst, arith, append-nil, append_assoc, if◌then◌else◌}
 use Rattle.std.specs.Fmt.{digit_glyph, sign_text}
 use Rattle.std.specs.Int.{is_negative}
@@ -24,7 +24,7 @@ use Rattle.fixed_constants.specs.Canonical.{hex_prefix, literal_text}
 use Rattle.fixed_constants.specs.Constants.{IsLiteralOf}
 use Rattle.fixed_constants.specs.Laws.{literal_style}
 
--- ---- the bytes of digits and a point
+-- ---- bytes of digits and points
 abbrev pub IsShownByte : ℕ → Type 0
 IsShownByte b = (46 ≤ b) × (b ≡ 95 → ⊥)
 
@@ -99,7 +99,7 @@ styled_literal c g =
       text_is = sym (unpadded (sign_and_prefix literal_style (is_negative c)) body ∙ (ap (λ t. t ++ body) (lead_is (is_negative c)) ∙ append_assoc sign hex_prefix body));
     }
 
--- ---- shown bytes as a literal's rest
+-- ---- shown bytes after the prefix of a literal
 byte_kept : (b : ℕ) → IsShownByte b → eqb b underscore ≡ false
 byte_kept b is = by_test (eqb b underscore) refl
   where
@@ -128,7 +128,7 @@ unsigned_start : (bs : List ℕ) → All IsShownByte bs → begins_signed bs ≡
 unsigned_start [] all = refl
 unsigned_start (b ∷ bs) all = no_sign_byte b (All-head IsShownByte b bs all)
 
--- a numeral of such bytes has no sign
+-- a numeral of shown bytes has no sign
 no_sign : (bs : List ℕ) (p : Parts) → All IsShownByte bs → HasParts Hex bs p → p.sign ≡ None
 no_sign bs p all has = by_sign p.sign refl
   where
@@ -156,7 +156,7 @@ has_rest bs p all has =
       numeral = subst N same has;
     }
 
--- ---- the literal of a magnitude, without a sign and after one
+-- ---- the literal of a magnitude, with or without a sign
 record ReadsAs (s : Bool) (g : ℕ) (bytes : List ℕ) (c : ℤ) : Type 0 where
   pub parts : Parts
   pub has : HasLiteral s bytes parts

@@ -1,4 +1,4 @@
--- One error, and one first constant of a name.
+-- A text has at most one error, and a name at most one first constant.
 use Rattle.std.proofs.Common.{◌≡◌, ◌∙◌, ℕ, List, [], ◌∷◌, ap, inl, inr, refl, sym}
 use Rattle.line_engine.specs.Lines.{lines}
 use Rattle.fixed_constants.specs.Constants.{ConstantParts, IsFirstNamed}

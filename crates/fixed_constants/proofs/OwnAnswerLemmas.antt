@@ -1,4 +1,4 @@
--- An answer without a fault is answered with itself.
+-- An answer without a fault is the answer to itself.
 use Rattle.std.proofs.Common.{◌≡◌, ℕ, false, List, [], sym, ap, ◌∙◌, subst, inl, inr}
 use Rattle.std.proofs.lemmas.Bool.{false≢true}
 use Rattle.line_engine.specs.AnswerText.{AnswerText}
@@ -9,7 +9,7 @@ use Rattle.fixed_constants.specs.Constants.{ConstantParts, IsConstantsOf}
 use Rattle.fixed_constants.specs.Laws.{WrittenReadsBack}
 use Rattle.fixed_constants.specs.Lemmas.ConstantsLemmas.{declare_one, not_both}
 
--- an input with these constants is answered with their canonical text
+-- the answer to an input with these constants is their canonical text
 pub is_canonical : (input : List ℕ) (t : List ConstantParts) (a : AnswerText) → IsConstantsOf input t → IsWholeAnswer input a → a ≡ record { text = canonical_text t; fault = false }
 is_canonical input t a are (inl x) =
     let same : x.constants ≡ t = declare_one [] (lines input) x.constants t x.are are in

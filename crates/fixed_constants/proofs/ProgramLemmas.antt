@@ -1,4 +1,4 @@
--- Arguments name one form.
+-- Arguments name at most one form.
 use Rattle.std.specs.Prelude.{String, codes}
 use Rattle.std.proofs.Common.{◌≡◌, ◌<◌, ◌≤◌, ℕ, List, [], ◌∷◌, length, get_or, sym, ap, subst, arith, ◌∙◌, inl, inr}
 use Rattle.std.specs.String.{string_bytes}
@@ -24,7 +24,7 @@ guard_named (word ∷ []) f h g k a b = a.1 ∙ sym b.1
 guard_named (word ∷ name ∷ []) f h g k a b = a.2 ∙ sym b.2
 guard_named (word ∷ name ∷ more ∷ words) f h g k a b = absurd a
 
--- one word that names no language
+-- one argument that names no language names no form
 pub no_language : (words : List (String Global)) (word : String Global) (bytes : List ℕ) → 1 ≤ length words → length words < 2 → word ≡ get_or words 0 word → bytes ≡ string_bytes word → ((f : Form) → NamesLanguage bytes f → ⊥)
     → (form : Form) (guard : List ℕ) → NamesForm words form guard → ⊥
 no_language [] word bytes low high is same none form guard names = absurd (omega arith)

@@ -1,4 +1,4 @@
--- What the reading of a literal says of it.
+-- From the reading of a literal to its definition.
 use Rattle.std.proofs.Common.{◌≡◌, ℕ, List, ℤ, sym, ◌∙◌, subst, refl, inr, Bool, true, false, IsTrue, ◌↔◌, [], ◌∷◌}
 use Rattle.std.proofs.lemmas.Bool.{false≢true}
 use Rattle.fixed_respell.specs.LineWords.{HasWords}
@@ -31,7 +31,7 @@ literal_in f bytes found p bits is has reading image in_range =
       in_range = subst R is in_range;
     }
 
--- and out of range
+-- a reading into the format whose number is out of range
 pub literal_out : (f : FormatParts) (bytes : List ℕ) (found : ReadNumber) (p : Parts) → found.format ≡ f → HasLiteral f.signed bytes p → IsReading NearestEven (literal_radix f.signed bytes) p found
     → ((v : ℤ) → IsNumber (number_in found) v → IsOutOfRange found.format.signed found.format.width v) → IsRefusedLiteral f bytes Overflow
 literal_out f bytes found p is has reading out =
@@ -52,7 +52,7 @@ literal_out f bytes found p is has reading out =
 abbrev pub fields_of : (line name equals literal format : List ℕ) → (IsPassedOver line → ⊥) → HasWords line (name ∷ equals ∷ literal ∷ []) format → Fields line
 fields_of line name equals literal format spoken has = record { spoken = spoken; name = name; equals = equals; literal = literal; format = format; has = has }
 
--- what a test says
+-- from the result of a test to what it decides
 pub yes_by : (b : Bool) (P : Type 0) → (IsTrue b ↔ P) → b ≡ true → P
 yes_by b P same e = same.0 e
 

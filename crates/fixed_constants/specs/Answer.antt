@@ -1,4 +1,4 @@
--- What is written for a constants file.
+-- The answer to a constants file.
 use Rattle.std.specs.Prelude.{◌≡◌, ◌⊎◌, ℕ, List, [], ◌∷◌, ◌++◌, true, false, codes, decimal}
 use Rattle.fixed_numeral.specs.Messages.{message_of}
 use Rattle.line_engine.specs.AnswerText.{AnswerText}
@@ -17,11 +17,11 @@ fault_message BadFormat = codes "bad format"
 fault_message (BadLiteral kind) = message_of kind
 fault_message (Duplicate first) = codes "duplicate of line " ++ decimal first
 
--- what is written for a fault on line p
+-- the line written for a fault on line `p`
 abbrev pub fault_line : ℕ → ConstantFault → List ℕ
 fault_line p fault = codes "error: line " ++ (decimal p ++ (codes ": " ++ (fault_message fault ++ 10 ∷ [])))
 
--- the answer is the canonical text of the constants of the input
+-- the answer is the canonical text of the input's constants
 pub record IsCanonicalAnswer (input : List ℕ) (answer : AnswerText) : Type 0 where
   pub constants : List ConstantParts
   pub are : IsConstantsOf input constants
@@ -36,6 +36,6 @@ pub record IsFaultAnswer (input : List ℕ) (answer : AnswerText) : Type 0 where
   pub text : answer.text ≡ fault_line line why
   pub fault : answer.fault ≡ true
 
--- the answer is the answer to the input
+-- the answer to an input
 abbrev pub IsWholeAnswer : List ℕ → AnswerText → Type 0
 IsWholeAnswer input answer = IsCanonicalAnswer input answer ⊎ IsFaultAnswer input answer

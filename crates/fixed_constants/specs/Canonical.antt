@@ -11,7 +11,7 @@ use Rattle.fixed_constants.specs.Constants.{ConstantParts, equals_sign}
 abbrev pub hex_prefix : List ℕ
 hex_prefix = 48 ∷ 120 ∷ []
 
--- c / 2^g in hexadecimal, exactly and in the fewest places, with the prefix after the sign
+-- c / 2^g in hexadecimal, exactly and with the fewest places, with the prefix after the sign
 unfoldable pub literal_text : ℤ → ℕ → List ℕ
 literal_text c g = sign_text (is_negative c) ++ (hex_prefix ++ exact_text 16 false (pos (unsigned_abs c)) g)
 

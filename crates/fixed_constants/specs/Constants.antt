@@ -39,7 +39,7 @@ IsNameByte b = ((65 ≤ b) × (b ≤ 90)) ⊎ (((97 ≤ b) × (b ≤ 122)) ⊎ (
 abbrev pub AreNameBytes : List ℕ → Type 0
 AreNameBytes bytes = (i : ℕ) → i < length bytes → IsNameByte (get_or bytes i 0)
 
--- a name is 1 to 64 ASCII letters, digits and '_', and begins with no digit
+-- a name is 1 to 64 ASCII letters, digits and '_', and does not begin with a digit
 pub record IsName (word : List ℕ) : Type 0 where
   pub some : 0 < length word
   pub short : length word ≤ 64
@@ -49,7 +49,7 @@ pub record IsName (word : List ℕ) : Type 0 where
 abbrev pub equals_sign : List ℕ
 equals_sign = 61 ∷ []
 
--- the words before the first three spaces of a line that is not passed over, and all that follows the third
+-- the words before the first three spaces of a line that is not passed over, and the rest after the third
 pub record Fields (line : List ℕ) : Type 0 where
   pub spoken : ¬ IsPassedOver line
   pub name : List ℕ
@@ -76,7 +76,7 @@ IsRefusedLiteral f bytes kind = HasLiteralCause f.signed bytes kind
     ⊎ ((kind ≡ Overflow) × IsReadOutOfRange NearestEven (literal_radix f.signed bytes)
     (HasLiteral f.signed bytes) f.frac f.signed f.width)
 
--- the line spells the constant, whatever other lines there are
+-- the line spells the constant, whatever the other lines are
 pub record Spells (line : List ℕ) (c : ConstantParts) : Type 0 where
   pub fields : Fields line
   pub head : HasHead line fields
@@ -91,17 +91,17 @@ pub record Names (line name : List ℕ) : Type 0 where
   pub rest : List ℕ
   pub split : IsSplit space line name rest
 
--- the first of the lines that names this is line p, where they are numbered from n on
+-- the first of the lines, numbered from `n` on, that names this is line `p`
 abbrev pub NamedFrom : ℕ → List (List ℕ) → List ℕ → ℕ → Type 0
 NamedFrom n [] name p = ⊥
 NamedFrom n (line ∷ lines) name p = (Names line name × (p ≡ n)) ⊎ ((¬ Names line name) × NamedFrom (n + 1) lines name p)
 
--- line p, from 1, is the first of them that names this
+-- the first of the lines, numbered from 1, that names this is line `p`
 abbrev pub IsNamedOn : List (List ℕ) → List ℕ → ℕ → Type 0
 IsNamedOn before name p = NamedFrom 1 before name p
 
 -- ---- the fault of a line
--- a line that comes after the lines `before` has the fault, and none that is looked for earlier
+-- a line after the lines `before` has this fault, and none that is checked earlier
 abbrev pub HasFault : List (List ℕ) → List ℕ → ConstantFault → Type 0
 HasFault before line MissingField = (¬ IsPassedOver line) × (count_of space line < 3)
 HasFault before line BadName = (x : Fields line) × (¬ IsName x.name)
@@ -111,20 +111,20 @@ HasFault before line (BadLiteral kind) = (x : Fields line) × HasHead line x × 
     × IsFormatWord x.format f × IsRefusedLiteral f x.literal kind
 HasFault before line (Duplicate first) = (c : ConstantParts) × Spells line c × IsNamedOn before c.name first
 
--- what a line that comes after the lines `before` says: a constant, or a fault
+-- the meaning of a line after the lines `before`: a constant, or a fault
 abbrev pub Says : List (List ℕ) → List ℕ → Result ConstantParts ConstantFault → Type 0
 Says before line (Ok c) = Spells line c × ((p : ℕ) → ¬ IsNamedOn before c.name p)
 Says before line (Err fault) = HasFault before line fault
 
 -- ---- a text
--- lines that come after the lines `before` declare the constants, in order
+-- lines after the lines `before` declare the constants, in order
 abbrev pub Declare : List (List ℕ) → List (List ℕ) → List ConstantParts → Type 0
 Declare before [] constants = constants ≡ []
 Declare before (line ∷ lines) constants = (IsPassedOver line × Declare (before ++ line ∷ []) lines constants)
     ⊎ ((c : ConstantParts) × (more : List ConstantParts) × Says before line (Ok c) × (constants ≡ c ∷ more)
     × Declare (before ++ line ∷ []) lines more)
 
--- the first fault of lines that come after the lines `before` is this one, on line p
+-- the first fault of lines after the lines `before` is this one, on line `p`
 abbrev pub FailAt : List (List ℕ) → List (List ℕ) → ℕ → ConstantFault → Type 0
 FailAt before [] p fault = ⊥
 FailAt before (line ∷ lines) p fault = (Says before line (Err fault) × (p ≡ length before + 1))
@@ -135,11 +135,11 @@ FailAt before (line ∷ lines) p fault = (Says before line (Err fault) × (p ≡
 abbrev pub IsConstantsOf : List ℕ → List ConstantParts → Type 0
 IsConstantsOf text constants = Declare [] (lines text) constants
 
--- the first line of a text with a fault, and its first fault
+-- the first line of a text with a fault, and the first fault of that line
 abbrev pub IsFaultOf : List ℕ → ℕ → ConstantFault → Type 0
 IsFaultOf text p fault = FailAt [] (lines text) p fault
 
--- what an error says of a text
+-- the meaning of an error of a text
 abbrev pub IsErrorOf : List ℕ → ConstantsError → Type 0
 IsErrorOf text (Refused p fault) = IsFaultOf text p fault
 IsErrorOf text NoMemory = Unit {0}
@@ -150,7 +150,7 @@ abbrev pub HasName : List ℕ → List ConstantParts → Type 0
 HasName name [] = ⊥
 HasName name (c ∷ constants) = (c.name ≡ name) ⊎ HasName name constants
 
--- the first constant of the name
+-- the first constant with the name
 abbrev pub IsFirstNamed : List ℕ → List ConstantParts → ConstantParts → Type 0
 IsFirstNamed name [] c = ⊥
 IsFirstNamed name (d ∷ constants) c = ((d.name ≡ name) × (c ≡ d))

@@ -1,4 +1,4 @@
--- Which lists are the constants of some text.
+-- Lists that are the constants of some text.
 use Rattle.std.specs.Prelude.{List, [], ◌∷◌}
 use Rattle.fixed_bits.specs.Formats.{IsTypeFormat}
 use Rattle.fixed_bits.specs.Ranges.{IsInRange}
@@ -10,7 +10,7 @@ pub record IsEntry (c : ConstantParts) : Type 0 where
   pub format : IsTypeFormat c.format.width c.format.frac
   pub bits : IsInRange c.format.signed c.format.width c.bits
 
--- such constants, of which no two have one name
+-- such constants with different names
 abbrev pub AreEntries : List ConstantParts → Type 0
 AreEntries [] = Unit {0}
 AreEntries (c ∷ constants) = IsEntry c × (¬ HasName c.name constants) × AreEntries constants

@@ -21,7 +21,7 @@ use Rattle.fixed_constants.specs.declared.form.Form.{Form}
 use Rattle.fixed_constants.specs.declared.form.Form.TheVariants.{Canonical, C, Rust}
 
 -- ---- names that a language reserves
--- the keywords of C, and what <stdint.h> names: types and macros; each between two spaces
+-- the keywords of C, and the types and macros of <stdint.h>, each between two spaces
 unfoldable pub c_words : List ℕ
 c_words =
     codes " _Alignas _Alignof _Atomic _BitInt _Bool _Complex _Decimal128 _Decimal32 _Decimal64 _Generic" ++
@@ -60,7 +60,7 @@ words_in Canonical = []
 words_in C = c_words
 words_in Rust = rust_words
 
--- the words hold this one between two spaces
+-- the words contain this one between two spaces
 abbrev pub IsAmong : List ℕ → List ℕ → Type 0
 IsAmong words word = (place : ℕ) × OccursAt words (space ∷ (word ++ space ∷ [])) place
 
@@ -68,30 +68,30 @@ IsAmong words word = (place : ℕ) × OccursAt words (space ∷ (word ++ space �
 abbrev pub IsReserved : Form → List ℕ → List ℕ → Type 0
 IsReserved form guard name = IsAmong (words_in form) name ⊎ (name ≡ guard)
 
--- the line has all fields, and its first word is a name that is reserved
+-- the line has all fields, and its first word is a reserved name
 pub record HasReserved (form : Form) (guard line : List ℕ) : Type 0 where
   pub fields : Fields line
   pub name : IsName fields.name
   pub reserved : IsReserved form guard fields.name
 
--- the first of the lines with a reserved name is line p, where they are numbered from n on
+-- the first of the lines, numbered from `n` on, with a reserved name is line `p`
 abbrev pub ReservedFrom : ℕ → Form → List ℕ → List (List ℕ) → ℕ → Type 0
 ReservedFrom n form guard [] p = ⊥
 ReservedFrom n form guard (line ∷ lines) p = (HasReserved form guard line × (p ≡ n))
     ⊎ ((¬ HasReserved form guard line) × ReservedFrom (n + 1) form guard lines p)
 
--- the first line of a text with a reserved name is line p, from 1
+-- the first line of a text, from 1, with a reserved name is line `p`
 abbrev pub IsReservedOn : Form → List ℕ → List ℕ → ℕ → Type 0
 IsReservedOn form guard text p = ReservedFrom 1 form guard (lines text) p
 
--- the first fault of a text that is to be written in the form: its own, or a reserved name, whichever is on the earlier
--- line; on one line the name
+-- the first fault of a text to be written in the form: a fault of its own or a reserved name, whichever is on the
+-- earlier line; the name if both are on one line
 abbrev pub IsFormFault : Form → List ℕ → List ℕ → ℕ → ConstantFault → Type 0
 IsFormFault form guard text p fault = (IsFaultOf text p fault × ((q : ℕ) → IsReservedOn form guard text q → p < q))
     ⊎ ((fault ≡ BadName) × IsReservedOn form guard text p
     × ((q : ℕ) (other : ConstantFault) → IsFaultOf text q other → p ≤ q))
 
--- what an error says of a text that is to be written in the form
+-- the meaning of an error of a text to be written in the form
 abbrev pub IsFormError : Form → List ℕ → List ℕ → ConstantsError → Type 0
 IsFormError form guard text (Refused p fault) = IsFormFault form guard text p fault
 IsFormError form guard text NoMemory = Unit {0}
@@ -105,11 +105,11 @@ macro_stem false = codes "UINT"
 unfoldable pub c_macro : FormatParts → List ℕ
 c_macro f = macro_stem f.signed ++ (decimal f.width ++ codes "_C")
 
--- the macro of <stdint.h> of a number in hexadecimal
+-- the macro of <stdint.h> applied to a number in hexadecimal
 unfoldable pub c_constant : FormatParts → ℕ → List ℕ
 c_constant f m = c_macro f ++ (codes "(" ++ (literal_text (pos m) 0 ++ codes ")"))
 
--- a negative number by its magnitude; the lowest of its width is one below a number that the macro can take
+-- a negative number by its magnitude; the lowest of its width is one below a number that the macro accepts
 unfoldable pub c_minus : FormatParts → ℕ → List ℕ
 c_minus f m = codes "(-" ++ (c_constant f m ++ codes ")")
 
@@ -122,7 +122,7 @@ c_negative f m = if m == 2 ^ (f.width - 1) then c_lowest f (m - 1) else c_minus 
 unfoldable pub c_number : FormatParts → ℤ → List ℕ
 c_number f bits = if is_negative bits then c_negative f (unsigned_abs bits) else c_constant f (unsigned_abs bits)
 
--- a comment of the format and the value, and the end of the line
+-- a comment with the format and the value, and the end of the line
 unfoldable pub c_comment : FormatParts → ℤ → List ℕ
 c_comment f bits = codes " /* " ++ (format_text f ++ (codes ", " ++ (shortest_text bits f.frac ++ codes " */\n")))
 
@@ -151,7 +151,7 @@ abbrev pub form_lines : Form → List ConstantParts → List ℕ
 form_lines form [] = []
 form_lines form (c ∷ constants) = form_line form c ++ form_lines form constants
 
--- what comes before the lines: in a header the test of its guard, where there is one, and the types
+-- the text before the lines: in a header the test of its guard, if it has one, and the types
 abbrev pub guard_test : List ℕ → List ℕ
 guard_test [] = []
 guard_test (b ∷ bs) = codes "#ifndef " ++ ((b ∷ bs) ++ (codes "\n#define " ++ ((b ∷ bs) ++ codes "\n\n")))
@@ -164,7 +164,7 @@ opening Canonical guard = []
 opening C guard = c_opening guard
 opening Rust guard = []
 
--- what comes after the lines: the end of the guard, where there is one
+-- the text after the lines: the end of the guard, if there is one
 abbrev pub c_closing : List ℕ → List ℕ
 c_closing [] = []
 c_closing (b ∷ bs) = codes "\n#endif\n"

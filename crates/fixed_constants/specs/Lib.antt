@@ -3,6 +3,7 @@ pub mod Canonical
 pub mod Answer
 pub mod Entries
 pub mod Forms
+pub mod Plain
 pub mod Program
 pub mod Laws
 pub mod Inner

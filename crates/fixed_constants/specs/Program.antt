@@ -16,7 +16,7 @@ use Rattle.fixed_constants.specs.Forms.{IsFormAnswer, IsReserved}
 use Rattle.fixed_constants.specs.declared.form.Form.{Form}
 use Rattle.fixed_constants.specs.declared.form.Form.TheVariants.{Canonical, C, Rust}
 
--- a word that can guard a header: a name that C does not reserve
+-- a word that may guard a header: a name that C does not reserve
 abbrev pub IsGuard : List ℕ → Type 0
 IsGuard word = IsName word × (¬ IsReserved C [] word)
 
@@ -24,7 +24,7 @@ IsGuard word = IsName word × (¬ IsReserved C [] word)
 abbrev pub NamesLanguage : List ℕ → Form → Type 0
 NamesLanguage word form = ((word ≡ codes "c") × (form ≡ C)) ⊎ ((word ≡ codes "rust") × (form ≡ Rust))
 
--- the arguments name this form and this guard, which is empty where they name none
+-- the arguments name this form and this guard, which is empty if they name none
 abbrev pub NamesForm : List (String Global) → Form → List ℕ → Type 0
 NamesForm [] form guard = (form ≡ Canonical) × (guard ≡ [])
 NamesForm (word ∷ []) form guard = NamesLanguage (string_bytes word) form × (guard ≡ [])
@@ -36,22 +36,22 @@ NamesForm (word ∷ name ∷ more ∷ words) form guard = ⊥
 abbrev pub IsUsageFault : List (String Global) → Type 0
 IsUsageFault args = (form : Form) (guard : List ℕ) → ¬ NamesForm args form guard
 
--- what is written for arguments that name none
+-- the output for arguments that name no form
 abbrev pub usage_line : List ℕ
 usage_line = codes "usage: constants_tool [c [GUARD] | rust]\n"
 
--- how many bytes an input has at most
+-- the longest input, in bytes
 abbrev pub most_bytes : ℕ
 most_bytes = 1048576
 
--- all that `run_forms` promises of a run by these arguments that ended so
+-- all that `run_constants` promises of a run with these arguments and this status
 pub record HasFormRun (args : List (String Global)) (before after : Outside) (status : Status) : Type 0 where
-  -- the answer to an input within the limit is written where no read and no write failed, or there was no memory
+  -- the answer to an input within the limit is written if no read and no write failed, or memory ran out
   pub output : (f : Form) (g : List ℕ) → NamesForm args f g → (input : List ℕ) → before.left ≡ Some input
       → length input ≤ most_bytes
       → ¬ HasFailed before.read_failures after.read_failures → ¬ HasFailed before.write_failures after.write_failures
       → (status ≡ NoMemory) ⊎ WritesAnswer (IsFormAnswer f g) input before.written after.written status
-  -- an input past the limit is reported
+  -- an input past the limit is reported, or memory ran out
   pub too_long : (f : Form) (g : List ℕ) → NamesForm args f g → (input : List ℕ) → before.left ≡ Some input
       → most_bytes < length input
       → ¬ HasFailed before.read_failures after.read_failures → ¬ HasFailed before.write_failures after.write_failures
@@ -59,20 +59,20 @@ pub record HasFormRun (args : List (String Global)) (before after : Outside) (st
   -- what was taken and what was written, by status
   pub run : (f : Form) (g : List ℕ) → NamesForm args f g
       → HasWholeRun (IsFormAnswer f g) most_bytes before.left after.left before.written after.written status
-  -- where a write failed, a prefix of the answer was written
+  -- if a write failed, a prefix of the answer was written
   pub prefix_on_write_fault : (f : Form) (g : List ℕ) → NamesForm args f g → status ≡ WriteFault
       → (input : List ℕ) (answer : AnswerText)
       → before.left ≡ Some input → IsFormAnswer f g input answer
       → AppendsPrefix before.written after.written answer.text
-  -- what the source was asked for
+  -- what reads requested of the source
   pub asked : (f : Form) (g : List ℕ) → NamesForm args f g → AskedWithin most_bytes before.asked after.asked
-  -- arguments that ask for nothing are answered with the usage line
+  -- arguments that name no form are answered with the usage line
   pub usage : IsUsageFault args
       → WritesText usage_line Usage before.written after.written before.write_failures after.write_failures status
   pub usage_only : status ≡ Usage → IsUsageFault args
   -- which count of failures rose, by status
   pub failures : HasFailures before.read_failures after.read_failures before.write_failures after.write_failures status
-  -- a run by other arguments reads nothing
+  -- a run with such arguments reads nothing
   pub untouched : IsUsageFault args → ReadsNothing before after
-  -- a run that ended before its input did, or for want of memory, wrote nothing
+  -- a run that ended before its input did, or for lack of memory, wrote nothing
   pub unwritten : EndsBeforeWriting status → WritesNothing before after

@@ -1,4 +1,4 @@
-//! Writing constants in their one canonical form.
+//! Writes constants in their one canonical form.
 
 ghost use Rattle.std.specs.Prelude.{◌≡◌, ◌≤◌, ◌+◌, ◌++◌, ◌<◌, ℤ, pos, length, unsigned_abs, OnOk, IfOk};
 ghost use Rattle.std.specs.Fmt.{sign_text};
@@ -13,7 +13,7 @@ use std::alloc::{AllocError, Global};
 use std::marker::Model;
 use text_buffer::{NoMemory, TextBuffer};
 
-/// The text of a file. It is seen as the list of its bytes.
+/// The text of a file. Contracts see the list of its bytes.
 #[derive(Drop)]
 pub struct FileText {
     bytes: Vec<u8>,
@@ -28,14 +28,14 @@ impl Model for FileText {
 }
 
 impl FileText {
-    /// The bytes.
+    /// Returns the bytes.
     pub fn as_bytes(&self) -> &[u8]
         ensures { result.now ≡ self.now }
     {
         self.bytes.as_slice()
     }
 
-    /// The bytes, without a copy.
+    /// Returns the bytes, without a copy.
     pub(crate) fn into_bytes(self) -> Vec<u8>
         ensures { result.items ≡ self }
     {
@@ -43,7 +43,7 @@ impl FileText {
     }
 }
 
-/// The magnitude of a number.
+/// Returns the magnitude of a number.
 fn magnitude_of(value: i128) -> i128
     requires { IsWide value }
     ensures magnitude { result ≡ pos (unsigned_abs value) }
@@ -52,7 +52,7 @@ fn magnitude_of(value: i128) -> i128
     if value < 0 { -value } else { value }
 }
 
-/// Appends `-` where a number is negative, else nothing.
+/// Appends `-` if a number is negative, else nothing.
 fn push_sign(out: &mut TextBuffer<160>, value: i128)
     requires { length out.old < 160 }
     ensures { out.new ≡ out.old ++ sign_text (is_negative value) }
@@ -90,7 +90,7 @@ pub(crate) fn push_entry(text: &mut Vec<u8>, constant: &Constant) -> Result<(), 
     Ok(())
 }
 
-/// The lines of all constants.
+/// Returns the lines of all constants.
 fn text_of(alloc: Global, constants: &Constants) -> Result<Vec<u8>, AllocError>
     ensures { IfOk result (λ text. text.items ≡ canonical_text constants.now) }
 {
@@ -104,11 +104,11 @@ fn text_of(alloc: Global, constants: &Constants) -> Result<Vec<u8>, AllocError>
     Ok(text)
 }
 
-/// The canonical text of constants: for each a line of its name, its exact value in hexadecimal and its format.
+/// Returns the canonical text of constants: a line for each, with its name, exact value in hexadecimal and format.
 ///
 /// # Errors
 ///
-/// It may find no memory.
+/// There may be no memory.
 pub fn write_constants(alloc: Global, constants: &Constants) -> Result<FileText, NoMemory>
     ensures { IfOk result (λ text. text ≡ canonical_text constants.now) }
 {

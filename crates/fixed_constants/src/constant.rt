@@ -27,7 +27,7 @@ impl Model for Constant {
 }
 
 impl Constant {
-    /// The constant with these parts. The bits are in the range of some format.
+    /// Makes a constant of these parts. The bits are in the range of some format.
     pub(crate) fn new(name: Vec<u8>, format: Format, bits: i128) -> Constant
         requires { IsWide bits }
         ensures { result ≡ record { name = name.items; format = format; bits = bits } }
@@ -35,21 +35,21 @@ impl Constant {
         Constant { name, format, bits }
     }
 
-    /// The name, 1 to 64 ASCII letters, digits and `_`.
+    /// Returns the name: 1 to 64 ASCII letters, digits and `_`.
     pub fn name(&self) -> &[u8]
         ensures { result.now ≡ self.now.name }
     {
         self.name.as_slice()
     }
 
-    /// The format.
+    /// Returns the format.
     pub fn format(&self) -> Format
         ensures { result ≡ self.now.format }
     {
         self.format
     }
 
-    /// The bits: the value is this many ulps of the format.
+    /// Returns the bits: the value is this many ulps of the format.
     pub fn bits(&self) -> i128
         ensures bits { result ≡ self.now.bits }
         ensures wide { IsWide result }
@@ -58,7 +58,7 @@ impl Constant {
     }
 }
 
-/// The constants of a file, in the order of their lines. It is seen as the list of their names, formats and bits.
+/// The constants of a file, in the order of their lines. Contracts see the list of their names, formats and bits.
 #[derive(Drop)]
 pub struct Constants {
     entries: Vec<Constant>,
@@ -74,28 +74,28 @@ impl Model for Constants {
 }
 
 impl Constants {
-    /// These constants.
+    /// The constants in a list.
     pub(crate) fn of(entries: Vec<Constant>) -> Constants
         ensures { result ≡ entries.items }
     {
         Constants { entries }
     }
 
-    /// How many constants there are.
+    /// Returns how many constants there are.
     pub fn len(&self) -> usize
         ensures { result ≡ length self.now }
     {
         self.entries.len()
     }
 
-    /// The constant with this number, from 0. `None` exactly where there are no more than that.
+    /// Returns the constant with this index, from 0. `None`: there are at most `i` constants.
     pub fn get(&self, i: usize) -> Option<&Constant>
         ensures { option_copied result ≡ slice_get self.now i }
     {
         self.entries.get(i)
     }
 
-    /// The constant with this name. `None` exactly where there is none.
+    /// Returns the constant with this name, if any.
     pub fn find(&self, name: &[u8]) -> Option<&Constant>
         ensures { MatchOption result (¬ HasName name.now self.now) (λ c. IsFirstNamed name.now self.now c.now) }
     {

@@ -1,4 +1,4 @@
-//! Reading a constants file.
+//! Reads a constants file.
 
 ghost use Rattle.std.specs.Prelude.{
   ◌≡◌,
@@ -32,7 +32,7 @@ use std::alloc::{AllocError, Global};
 use std::collections::HashMap;
 use text_buffer::NoMemory;
 
-/// Notes that a name is declared on a line. Answers the line on which it was declared before.
+/// Records that a name is declared on a line. Returns the line that declared it before, if any.
 fn note_name<'a>(
     known: &mut HashMap<&'a [u8], u64>,
     name: &'a [u8],
@@ -131,13 +131,13 @@ fn add_line<'a>(
     }
 }
 
-/// The constants of a text.
+/// Reads the constants of a text.
 ///
 /// An empty line and a line that begins with `#` are passed over. Any other line is `NAME = LITERAL FORMAT`.
 ///
 /// # Errors
 ///
-/// The first line with a fault is reported with its number and its first fault. It may find no memory.
+/// The first line with a fault is reported with its number and its first fault. There may be no memory.
 pub fn read_constants(alloc: Global, text: &[u8]) -> Result<Constants, ConstantsError>
     ensures constants { IfOk result (λ t. IsConstantsOf text.now t) }
     ensures refused { IfErr result (λ error. IsErrorOf text.now error) }

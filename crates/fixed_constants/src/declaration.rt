@@ -1,4 +1,4 @@
-//! What a line declares.
+//! Reads the declaration of a line.
 
 ghost use Rattle.std.specs.Prelude.{
   ◌≡◌,
@@ -38,7 +38,7 @@ use fixed_numeral::{ParseErrorKind, ParseFixedError};
 use fixed_read::read_literal;
 use fixed_respell::{format_word, split_once};
 
-/// The most bytes of a name.
+/// The longest name, in bytes.
 const MAX_NAME: usize = 64;
 
 /// Whether a line declares nothing: it is empty, or begins with `#`.
@@ -48,14 +48,14 @@ pub fn is_passed_over(line: &[u8]) -> bool
     line.is_empty() || line[0] == b'#'
 }
 
-/// Whether a name may hold the byte.
+/// Whether a name may contain the byte.
 fn is_name_byte(byte: u8) -> bool
     ensures { IsTrue result ↔ IsNameByte byte }
 {
     matches!(byte, b'A'..=b'Z' | b'a'..=b'z' | b'0'..=b'9' | b'_')
 }
 
-/// Whether a name may hold each of the bytes.
+/// Whether a name may contain each of the bytes.
 fn are_name_bytes(word: &[u8]) -> bool
     ensures { IsTrue result ↔ AreNameBytes word.now }
 {
@@ -84,20 +84,20 @@ fn is_equals_sign(word: &[u8]) -> bool
     word == b"=".as_slice()
 }
 
-/// The words before a line's first three spaces, and all that follows the third.
+/// The words before a line's first three spaces, and the text after the third.
 #[derive(Drop)]
 pub struct Fields<'a> {
     /// The first word.
     pub name: &'a [u8],
-    /// The second.
+    /// The second word.
     pub equals: &'a [u8],
-    /// The third.
+    /// The third word.
     pub literal: &'a [u8],
-    /// All that follows the third space.
+    /// The text after the third space.
     pub format: &'a [u8],
 }
 
-/// The words of a line, split at its first three spaces. None where it has fewer.
+/// Splits a line at its first three spaces. `None`: it has fewer.
 pub fn split_line(line: &[u8]) -> Option<Fields<'_>>
     ensures { MatchOption result (count_of space line.now < 3)
         (λ f. HasWords line.now (f.name.now ∷ f.equals.now ∷ f.literal.now ∷ []) f.format.now) }
@@ -119,7 +119,7 @@ pub fn split_line(line: &[u8]) -> Option<Fields<'_>>
     })
 }
 
-/// The bits of a literal in a format.
+/// Returns the bits of a literal in a format.
 fn literal_bits(literal: &[u8], format: Format) -> Result<i128, ParseFixedError>
     ensures bits { IfOk result (λ bits. IsLiteralOf format literal.now bits) }
     ensures wide { IfOk result IsWide }
@@ -145,7 +145,7 @@ pub struct Declaration<'a> {
     pub bits: i128,
 }
 
-/// What a line that is not passed over declares, or its first fault that needs no other line.
+/// Returns the declaration of a line that is not passed over, or its first fault that does not depend on another line.
 pub fn read_line(line: &[u8]) -> Result<Declaration<'_>, ConstantFault>
     requires { ¬ IsPassedOver line.now }
     ensures spells { IfOk result

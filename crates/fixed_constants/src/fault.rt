@@ -2,16 +2,16 @@
 
 use fixed_numeral::ParseFixedError;
 
-/// The fault of a line, in the order in which they are looked for.
+/// The fault of a line, in the order of the checks.
 #[derive(Clone, Copy, Debug, PartialEq, Eq)]
 pub enum ConstantFault {
     /// Fewer than three spaces.
     MissingField,
-    /// The first word isn't 1 to 64 bytes, each an ASCII letter, a digit or `_`, the first no digit.
+    /// The first word is not 1 to 64 ASCII letters, digits and `_`, or begins with a digit.
     BadName,
-    /// The second word isn't `=`.
+    /// The second word is not `=`.
     MissingEquals,
-    /// What follows the third space is not a format word.
+    /// The text after the third space is not a format word.
     BadFormat,
     /// The third word is not a literal of the format, for this reason.
     BadLiteral(ParseFixedError),

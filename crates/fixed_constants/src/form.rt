@@ -1,9 +1,9 @@
-//! What a constants file can be written as, and which names a form reserves.
+//! The forms in which a constants file can be written, and the names that a form reserves.
 //!
-//! Names are reserved only where a language is requested: a constants file may name a constant `int`. For C they are
-//! the names that `<stdint.h>` defines, one by one. The standard keeps more of them, such as any name from `INT` to
-//! `_MAX`, but people use names such as `INTERVAL_MAX`. Of the first fault and the first reserved name the earlier line
-//! is reported.
+//! Names are reserved only if a language is requested: a constants file may name a constant `int`. For C they are the
+//! names that `<stdint.h>` defines, one by one. The standard keeps more of them, such as any name from `INT` to `_MAX`,
+//! but people use names such as `INTERVAL_MAX`. Of the first fault and the first reserved name, the one on the earlier
+//! line is reported.
 
 ghost use Rattle.std.specs.Prelude.{◌≡◌, ◌↔◌, ◌≤◌, ◌+◌, ℕ, IsTrue, MatchOption, length};
 ghost use Rattle.fixed_constants.specs.Forms.{HasReserved, IsAmong, IsReserved, IsReservedOn, words_in};
@@ -13,7 +13,7 @@ use line_engine::first_line;
 use memchr::memmem;
 use text_buffer::TextBuffer;
 
-/// What a constants file is written as.
+/// The form in which a constants file is written.
 #[derive(Clone, Copy, Debug, PartialEq, Eq)]
 pub enum Form {
     /// A constants file, in its one canonical form.
@@ -24,7 +24,7 @@ pub enum Form {
     Rust,
 }
 
-/// The keywords of C, and what `<stdint.h>` names: types and macros; each between two spaces.
+/// The keywords of C, and the types and macros that `<stdint.h>` names; each between two spaces.
 const C_WORDS: &[u8] = b" \
     _Alignas _Alignof _Atomic _BitInt _Bool _Complex _Decimal128 _Decimal32 _Decimal64 _Generic _Imaginary \
     _Noreturn _Static_assert _Thread_local alignas alignof asm auto bool break case char const constexpr \
@@ -54,7 +54,7 @@ const RUST_WORDS: &[u8] = b" \
     fn for gen if impl in let loop macro match mod move mut override priv pub ref return self static struct \
     super trait true try type typeof unsafe unsized use virtual where while yield ";
 
-/// The words that a form reserves, each between two spaces.
+/// Returns the words that a form reserves, each between two spaces.
 fn words_of(form: Form) -> &'static [u8]
     ensures { result.now ≡ words_in form }
 {
@@ -65,7 +65,7 @@ fn words_of(form: Form) -> &'static [u8]
     }
 }
 
-/// Whether words hold this one between two spaces.
+/// Whether `words` contains `word` between two spaces.
 pub fn is_among(words: &[u8], word: &[u8]) -> bool
     requires { length word.now ≤ 64 }
     ensures { IsTrue result ↔ IsAmong words.now word.now }
@@ -77,7 +77,7 @@ pub fn is_among(words: &[u8], word: &[u8]) -> bool
     memmem::find(words, between.as_bytes()).is_some()
 }
 
-/// Whether a name is a word of the form's language, or that of the header's guard.
+/// Whether a name is a word of the form's language, or the header's guard.
 pub fn is_reserved(form: Form, guard: &[u8], name: &[u8]) -> bool
     requires { length name.now ≤ 64 }
     ensures { IsTrue result ↔ IsReserved form guard.now name.now }
@@ -85,7 +85,7 @@ pub fn is_reserved(form: Form, guard: &[u8], name: &[u8]) -> bool
     is_among(words_of(form), name) || name == guard
 }
 
-/// Whether a line has all fields, and its first word is a name that is reserved.
+/// Whether a line has all fields, and its first word is a reserved name.
 fn has_reserved_name(form: Form, guard: &[u8], line: &[u8]) -> bool
     ensures { IsTrue result ↔ HasReserved form guard.now line.now }
 {
@@ -98,7 +98,7 @@ fn has_reserved_name(form: Form, guard: &[u8], line: &[u8]) -> bool
     }
 }
 
-/// The number, from 1, of the first line of a text whose name is reserved. None where there is no such line.
+/// Returns the number, from 1, of the first line of a text whose name is reserved, if any.
 pub fn first_reserved(form: Form, guard: &[u8], text: &[u8]) -> Option<u64>
     ensures { MatchOption result ((p : ℕ)
         → ¬ IsReservedOn form guard.now text.now p) (λ p. IsReservedOn form guard.now text.now p) }

@@ -23,15 +23,15 @@ use text_buffer::NoMemory;
 pub struct FormRule<'a> {
     /// The form.
     pub form: Form,
-    /// The name that guards a C header; empty where there is none.
+    /// The name that guards a C header; empty without a guard.
     pub guard: &'a [u8],
 }
 
-/// The constants of a text, of which none has a name that the form reserves.
+/// Returns the constants of a text, unless one has a name that the form reserves.
 ///
 /// # Errors
 ///
-/// The first line with a fault or a reserved name is reported; on one line the name. It may find no memory.
+/// The first line with a fault or a reserved name is reported; if one line has both, the name. There may be no memory.
 fn constants_for(
     alloc: Global,
     form: Form,
@@ -68,7 +68,7 @@ fn constants_for(
     }
 }
 
-/// The answer to a constants file in the form of a language.
+/// Returns the answer to a constants file in the form of a language.
 fn answer<L: Ledger>(
     alloc: Global,
     form: Form,

@@ -13,6 +13,7 @@ ghost use Rattle.fixed_constants.specs.Laws.{
   FormAnswerIsTheOne,
   FormErrorIsTheOne,
   FormFaultIsTheOne,
+  LinesKeepTheirNumbers,
   LiteralIsStyled,
   LiteralIsTheOne,
   LiteralReadsBack,
@@ -34,7 +35,7 @@ pub fn fault_is_the_one()
     ensures { FaultIsTheOne }
 {}
 
-/// A text that has constants has no fault. So a text is refused exactly where it has a fault.
+/// A text that has constants has no fault. So a text is refused exactly if it has a fault.
 pub fn never_both()
     ensures { NeverBoth }
 {}
@@ -54,13 +55,13 @@ pub fn form_fault_is_the_one()
     ensures { FormFaultIsTheOne }
 {}
 
-/// A text has at most one error, in a form or without one, where memory was found.
+/// A text has at most one error, in a form or without one, if memory was found.
 pub fn error_is_the_one()
     ensures plain { ErrorIsTheOne }
     ensures form { FormErrorIsTheOne }
 {}
 
-/// A list has at most one first constant of a name.
+/// A list has at most one first constant with a name.
 pub fn first_named_is_the_one()
     ensures { FirstNamedIsTheOne }
 {}
@@ -92,7 +93,7 @@ pub fn constants_are_entries()
     ensures { ConstantsAreEntries }
 {}
 
-/// The canonical text of such constants is read as these constants.
+/// The canonical text of such constants is read as the same constants.
 pub fn canonical_text_reads_back()
     ensures { CanonicalTextReadsBack }
 {
@@ -118,4 +119,11 @@ pub fn answer_is_its_own()
     ensures { AnswerIsItsOwn }
 {
     written_reads_back();
+}
+
+/// A line of a text has the same number in its plain text.
+pub fn lines_keep_their_numbers()
+    ensures { LinesKeepTheirNumbers }
+{
+    line_comes_first();
 }

@@ -1,4 +1,4 @@
-//! The program with all its forms: what its arguments ask for.
+//! The program with all its forms, and its arguments.
 
 ghost use Rattle.std.specs.Prelude.{◌≡◌, ◌≤◌, ◌<◌, ◌⊎◌, ◌↔◌, IsTrue, List, ℕ, Some, length, MatchOption};
 ghost use Rattle.line_engine.specs.AnswerText.{AnswerText};
@@ -19,7 +19,7 @@ use line_engine::{MAX_WHOLE, Sink, Source, Status, run_whole, write_text};
 use std::alloc::Global;
 use std::sync::ledger::Ledger;
 
-/// What is written for other arguments.
+/// The usage line.
 const USAGE: &[u8] = b"usage: constants_tool [c [GUARD] | rust]\n";
 
 /// Whether a word can guard a header: it is a name, and C does not reserve it.
@@ -29,7 +29,7 @@ pub fn is_guard(word: &[u8]) -> bool
     is_name(word) && !is_reserved(Form::C, b"", word)
 }
 
-/// The form of the language that a word names. None where it names none.
+/// Returns the form of the language that a word names, if any.
 fn language_form(word: &[u8]) -> Option<Form>
     ensures { MatchOption result ((f : Form) → ¬ NamesLanguage word.now f) (λ f. NamesLanguage word.now f) }
 {
@@ -40,7 +40,7 @@ fn language_form(word: &[u8]) -> Option<Form>
     }
 }
 
-/// The form that the arguments name, and the guard of its header. None where they name none.
+/// Returns the form that the arguments name, and the guard of its header. `None`: the arguments are invalid.
 fn form_of(words: &[String]) -> Option<FormRule<'_>>
     ensures { MatchOption result (IsUsageFault words.now) (λ r. NamesForm words.now r.form r.guard.now) }
 {
@@ -65,17 +65,17 @@ fn form_of(words: &[String]) -> Option<FormRule<'_>>
 
 /// Answers a constants file of at most 1,048,576 bytes in the form that the arguments name, or with its first fault.
 ///
-/// No argument names the canonical form, `c` a C header without a guard, `c` and a name a header with this guard, and
-/// `rust` Rust. For other arguments it writes the usage line and reads nothing. It takes memory for 1,048,577 bytes
-/// before the first read, and for the constants and the answer.
-pub fn run_forms<S: Source, K: Sink, L: Ledger>(
+/// No argument means the canonical form, `c` a C header without a guard, `c` and a name a header with this guard, and
+/// `rust` Rust. For other arguments it writes the usage line and reads nothing. It allocates 1,048,577 bytes before the
+/// first read, and memory for the constants and the answer.
+pub fn run_constants<S: Source, K: Sink, L: Ledger>(
     alloc: Global,
     words: &[String],
     source: &mut S,
     sink: &mut K,
     steps: &mut Steps<L>,
 ) -> Status
-    // For every input within the limit, with no failed read or write, the run writes its constants in the form or its
+    // For every input within the limit, without a failed read or write, the run writes its constants in the form or its
     // first fault, and nothing else; or there was no memory.
     ensures output { (f : Form) (g : List ℕ) → NamesForm words.now f g → (input : List ℕ)
         → S.left source.old ≡ Some input → length input ≤ 1048576
@@ -91,7 +91,7 @@ pub fn run_forms<S: Source, K: Sink, L: Ledger>(
         → ¬ HasFailed (K.failures sink.old) (K.failures sink.new)
         → (result ≡ Status.NoMemory) ⊎ (result ≡ Status.TooLong) }
 
-    // What was taken and what was written, by status, also after a failed read or write.
+    // The bytes read and written, by status, also after a failed read or write.
     ensures run { (f : Form) (g : List ℕ) → NamesForm words.now f g
         → HasWholeRun (IsFormAnswer f g) 1048576 (S.left source.old) (S.left source.new) (K.written sink.old)
         (K.written sink.new) result }
@@ -100,15 +100,14 @@ pub fn run_forms<S: Source, K: Sink, L: Ledger>(
         → S.left source.old ≡ Some input → IsFormAnswer f g input answer
         → AppendsPrefix (K.written sink.old) (K.written sink.new) answer.text }
 
-    // A run that ended before its input did, or for want of memory, left the sink as it was.
+    // A run with a failed read, an input that is too long or no memory left the sink as it was.
     ensures unwritten { EndsBeforeWriting result → sink.new ≡ sink.old }
 
-    // What the source was asked for: no read asked for more than the limit and one byte less those taken, or for more
-    // than 4,096.
+    // No read requested more than the limit and one byte less those taken, or more than 4,096.
     ensures asked { (f : Form) (g : List ℕ) → NamesForm words.now f g
         → AskedWithin 1048576 (S.asked source.old) (S.asked source.new) }
 
-    // Other arguments.
+    // Invalid arguments.
     ensures usage { IsUsageFault words.now
         → WritesText usage_line Status.Usage (K.written sink.old) (K.written sink.new) (K.failures sink.old)
         (K.failures sink.new) result }

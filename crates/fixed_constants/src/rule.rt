@@ -1,4 +1,4 @@
-//! The rule of the program: a constants file is answered with its canonical text.
+//! The rule of the program: it answers a constants file with its canonical text.
 
 ghost use Rattle.std.specs.Prelude.{◌≡◌, ◌++◌, IfOk, OnOk};
 ghost use Rattle.fixed_constants.specs.Answer.{IsWholeAnswer, fault_line, fault_message};
@@ -37,7 +37,7 @@ fn push_message(text: &mut Vec<u8>, fault: ConstantFault) -> Result<(), AllocErr
     Ok(())
 }
 
-/// What is written for a line with a fault.
+/// Returns the text for a line with a fault.
 pub fn fault_text(alloc: Global, line: u64, fault: ConstantFault) -> Result<Vec<u8>, AllocError>
     ensures { IfOk result (λ text. text.items ≡ fault_line line fault) }
 {

@@ -1,7 +1,7 @@
-//! Constants written as a C header and as Rust.
+//! Writes constants as a C header and as Rust.
 //!
 //! A type of Rust has its whole path, so a file of constants needs no `use`. A negative constant of C is
-//! `(-INT8_C(0x33))`, since the macro takes a constant and a minus is not part of one. The lowest of a width is
+//! `(-INT8_C(0x33))`, since the macro takes a constant and a minus is not part of one. The lowest number of a width is
 //! `(-INT8_C(0x7f) - 1)`, as in `<stdint.h>`, since its magnitude is out of the range of the type.
 
 ghost use Rattle.std.specs.Prelude.{◌≡◌, ◌<◌, ◌++◌, ◌-◌, ◌^◌, OnOk, IfOk, unsigned_abs};
@@ -53,7 +53,7 @@ pub fn push_hexadecimal(text: &mut Vec<u8>, value: i128) -> Result<(), AllocErro
     Ok(())
 }
 
-/// What the macros of `<stdint.h>` for constants begin with.
+/// Returns the prefix of the macros of `<stdint.h>` for constants.
 fn stem_of(signed: bool) -> &'static [u8]
     ensures { result.now ≡ macro_stem signed }
 {
@@ -71,7 +71,7 @@ fn push_c_macro(text: &mut Vec<u8>, format: Format) -> Result<(), AllocError>
     Ok(())
 }
 
-/// Appends the macro of a number.
+/// Appends a number in its macro.
 fn push_c_constant(text: &mut Vec<u8>, format: Format, number: u64) -> Result<(), AllocError>
     ensures { OnOk result (text.new.items ≡ text.old.items ++ c_constant format number) }
 {
@@ -82,7 +82,7 @@ fn push_c_constant(text: &mut Vec<u8>, format: Format, number: u64) -> Result<()
     Ok(())
 }
 
-/// The magnitude of the lowest number with a sign of a format's width.
+/// Returns the magnitude of the lowest signed number of a format's width.
 fn lowest_magnitude(format: Format) -> u64
     ensures value { result ≡ 2 ^ (format.width - 1) }
     ensures some { 0 < result }
@@ -90,7 +90,7 @@ fn lowest_magnitude(format: Format) -> u64
     1 << (format.width() - 1)
 }
 
-/// Appends the lowest number of a width as the sum of two that its macro can take.
+/// Appends the lowest number of a width as a number that its macro takes, less 1.
 fn push_c_lowest(text: &mut Vec<u8>, format: Format, above: u64) -> Result<(), AllocError>
     ensures { OnOk result (text.new.items ≡ text.old.items ++ c_lowest format above) }
 {
@@ -110,7 +110,7 @@ fn push_c_minus(text: &mut Vec<u8>, format: Format, magnitude: u64) -> Result<()
     Ok(())
 }
 
-/// Appends a negative number by its magnitude, also the lowest of its width.
+/// Appends a negative number by its magnitude, including the lowest of its width.
 fn push_c_negative(text: &mut Vec<u8>, format: Format, magnitude: u64) -> Result<(), AllocError>
     ensures { OnOk result (text.new.items ≡ text.old.items ++ c_negative format magnitude) }
 {
@@ -121,7 +121,7 @@ fn push_c_negative(text: &mut Vec<u8>, format: Format, magnitude: u64) -> Result
     }
 }
 
-/// The magnitude of bits.
+/// Returns the magnitude of bits.
 fn word_of(bits: i128) -> u64
     requires { IsWide bits }
     ensures { result ≡ unsigned_abs bits }
@@ -245,7 +245,7 @@ fn push_lines<L: Ledger>(
     Ok(())
 }
 
-/// Appends the test of a header's guard, where there is one.
+/// Appends the test of a header's guard, if any.
 fn push_guard_test(text: &mut Vec<u8>, guard: &[u8]) -> Result<(), AllocError>
     ensures { OnOk result (text.new.items ≡ text.old.items ++ guard_test guard.now) }
 {
@@ -260,7 +260,7 @@ fn push_guard_test(text: &mut Vec<u8>, guard: &[u8]) -> Result<(), AllocError>
     Ok(())
 }
 
-/// Appends what comes before the lines of a C header.
+/// Appends the text before the lines of a C header.
 fn push_c_opening(text: &mut Vec<u8>, guard: &[u8]) -> Result<(), AllocError>
     ensures { OnOk result (text.new.items ≡ text.old.items ++ c_opening guard.now) }
 {
@@ -269,7 +269,7 @@ fn push_c_opening(text: &mut Vec<u8>, guard: &[u8]) -> Result<(), AllocError>
     Ok(())
 }
 
-/// Appends what comes before the lines.
+/// Appends the text before the lines.
 fn push_opening(text: &mut Vec<u8>, form: Form, guard: &[u8]) -> Result<(), AllocError>
     ensures { OnOk result (text.new.items ≡ text.old.items ++ opening form guard.now) }
 {
@@ -279,7 +279,7 @@ fn push_opening(text: &mut Vec<u8>, form: Form, guard: &[u8]) -> Result<(), Allo
     }
 }
 
-/// Appends the end of a header's guard, where there is one.
+/// Appends the end of a header's guard, if any.
 fn push_c_closing(text: &mut Vec<u8>, guard: &[u8]) -> Result<(), AllocError>
     ensures { OnOk result (text.new.items ≡ text.old.items ++ c_closing guard.now) }
 {
@@ -289,7 +289,7 @@ fn push_c_closing(text: &mut Vec<u8>, guard: &[u8]) -> Result<(), AllocError>
     Ok(())
 }
 
-/// Appends what comes after the lines.
+/// Appends the text after the lines.
 fn push_closing(text: &mut Vec<u8>, form: Form, guard: &[u8]) -> Result<(), AllocError>
     ensures { OnOk result (text.new.items ≡ text.old.items ++ closing form guard.now) }
 {
@@ -299,7 +299,7 @@ fn push_closing(text: &mut Vec<u8>, form: Form, guard: &[u8]) -> Result<(), Allo
     }
 }
 
-/// Constants in a form: for each a line of its name and its bits.
+/// Returns constants in a form: for each a line with its name and its bits.
 pub fn source_text<L: Ledger>(
     alloc: Global,
     form: Form,

@@ -1,4 +1,4 @@
--- The enclosure of bytes from one reading in mode Floor.
+-- The enclosure of a numeral, from one reading in mode Floor.
 use Rattle.std.proofs.Common.{◌≡◌, ℕ, ◌⊎◌, List, sym, subst, ℤ}
 use Rattle.fixed_bits.specs.Formats.{FormatParts}
 use Rattle.fixed_bits.specs.Ranges.{IsInRange, IsOutOfRange}

@@ -17,7 +17,7 @@ use Rattle.fixed_enclose.specs.Enclosure.{IsEnclosed, IsRefusal}
 use Rattle.fixed_enclose.specs.declared.fault.EncloseFault.{EncloseFault}
 use Rattle.fixed_enclose.specs.declared.fault.EncloseFault.TheVariants.{LineTooLong, MissingField, BadRadix, BadFormat}
 
--- what is written for any argument
+-- the text that is written for any argument
 abbrev pub usage_line : List ℕ
 usage_line = codes "usage: enclose_tool\n"
 
@@ -29,7 +29,7 @@ HasFault MissingField line = count_of space line < 2
 HasFault BadRadix line = HasBadWord 2 0 NamesRadix line
 HasFault BadFormat line = HasBadWord 2 1 NamesFormat line
 
--- the rank of a fault in the order in which they are looked for
+-- the rank of a fault in the order of the checks
 abbrev pub fault_rank : EncloseFault → ℕ
 fault_rank LineTooLong = 0
 fault_rank MissingField = 1
@@ -47,8 +47,8 @@ fault_message MissingField = codes "missing field"
 fault_message BadRadix = codes "bad radix"
 fault_message BadFormat = codes "bad format"
 
--- ---- what a line asks for
--- the two values of a format nearest to a numeral's value, below and above
+-- ---- the task of a line
+-- a request for the two values of a format nearest to a numeral's value, below and above
 pub record Task : Type 0 where
   pub radix : Radix
   pub format : FormatParts
@@ -66,8 +66,8 @@ pub record Asks (line : List ℕ) (t : Task) : Type 0 where
   pub radix : radix_word ≡ radix_text t.radix
   pub format : IsFormatWord format_word t.format
 
--- ---- what a task is answered
--- the kind for which its numeral is refused
+-- ---- the answer to a task
+-- the message of the kind for which the task's numeral is refused
 pub record IsRefusalAnswer (t : Task) (answer : AnswerText) : Type 0 where
   pub kind : ParseErrorKind
   pub refusal : IsRefusal t.radix t.numeral t.format kind
@@ -78,7 +78,7 @@ abbrev pub verdict : Bool → List ℕ
 verdict true = codes "exact"
 verdict false = codes "wide"
 
--- a text, the bits in decimal, a text, the bits in decimal, and whether the bits are equal
+-- the low text, its bits in decimal, the high text, its bits in decimal, and whether the bits are equal
 abbrev pub ends_answer : List ℕ → ℤ → List ℕ → ℤ → Bool → AnswerText
 ends_answer low_text lo high_text hi exact = record {
   text = low_text ++ space ∷ (signed_decimal lo
@@ -86,7 +86,7 @@ ends_answer low_text lo high_text hi exact = record {
   fault = false;
 }
 
--- the bits of its enclosure, each after its shortest decimal, and whether they are equal
+-- the bits of the numeral's enclosure, each after its shortest decimal, and whether they are equal
 pub record IsEnclosedAnswer (t : Task) (answer : AnswerText) : Type 0 where
   pub lo : ℤ
   pub hi : ℤ
@@ -99,7 +99,7 @@ pub record IsEnclosedAnswer (t : Task) (answer : AnswerText) : Type 0 where
   pub is_exact : IsTrue exact ↔ (lo ≡ hi)
   pub answer_is : answer ≡ ends_answer low_text lo high_text hi exact
 
--- one of the two
+-- the answer to a task is one of the two
 abbrev pub IsTaskAnswered : Task → AnswerText → Type 0
 IsTaskAnswered t answer = IsRefusalAnswer t answer ⊎ IsEnclosedAnswer t answer
 

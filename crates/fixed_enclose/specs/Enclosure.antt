@@ -9,7 +9,7 @@ use Rattle.fixed_numeral.specs.declared.error.ParseErrorKind.{ParseErrorKind}
 use Rattle.fixed_numeral.specs.declared.error.ParseErrorKind.TheVariants.{Overflow}
 use Rattle.fixed_numeral.specs.declared.radix.Radix.{Radix}
 
--- lo is the greatest whole number that is not above y / den, and hi the least that is not below it
+-- lo is the greatest whole number not above y / den, and hi the least not below it
 pub record Encloses (y : ℤ) (den : ℕ) (lo hi : ℤ) : Type 0 where
   pub low : (lo *ℤ pos den) ≤ℤ y
   pub low_next : y <ℤ ((lo +ℤ pos 1) *ℤ pos den)
@@ -20,7 +20,7 @@ pub record Encloses (y : ℤ) (den : ℕ) (lo hi : ℤ) : Type 0 where
 abbrev pub in_ulps : Radix → Parts → ℕ → ℤ
 in_ulps r p f = signed p.sign ((magnitude r p).num * 2 ^ f)
 
--- bytes are a numeral, and these bits are those of the two values of the format that enclose its value
+-- bytes are a numeral, and lo and hi are the bits of the two values of the format that enclose its value
 pub record IsEnclosed (r : Radix) (bytes : List ℕ) (format : FormatParts) (lo hi : ℤ) : Type 0 where
   pub parts : Parts
   pub numeral : HasNumeral r bytes parts
@@ -28,7 +28,7 @@ pub record IsEnclosed (r : Radix) (bytes : List ℕ) (format : FormatParts) (lo 
   pub low : IsInRange format.signed format.width lo
   pub high : IsInRange format.signed format.width hi
 
--- bytes are a numeral, and the format lacks one of the two values
+-- bytes are a numeral, and one of the two values is out of the format's range
 pub record IsUnenclosed (r : Radix) (bytes : List ℕ) (format : FormatParts) : Type 0 where
   pub parts : Parts
   pub numeral : HasNumeral r bytes parts

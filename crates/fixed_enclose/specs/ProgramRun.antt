@@ -1,4 +1,4 @@
--- What a run of the program leaves, seen from outside.
+-- The effects of a run of the program, seen from outside.
 use Rattle.std.specs.Prelude.{◌≡◌, ℕ, ◌≤◌, ◌<◌, ◌⊎◌, List, [], String, Some, length}
 use Rattle.std.specs.declared.alloc.Global.{Global}
 use Rattle.line_engine.specs.AnswerText.{AnswerText}
@@ -17,37 +17,37 @@ use Rattle.fixed_enclose.specs.Answer.{IsAnswer, usage_line}
 abbrev pub IsUsageFault : List (String Global) → Type 0
 IsUsageFault args = ¬ (args ≡ [])
 
--- how many bytes are read at most
+-- the greatest number of bytes that are read
 abbrev pub limit : ℕ
 limit = 4294967296
 
--- all that `run_enclose` promises of a run by these arguments that ended so
+-- the contract of `run_enclose`: a run with these arguments that ended with this status
 pub record HasEncloseRun (args : List (String Global)) (before after : Outside) (status : Status) : Type 0 where
-  -- an input within the limit is answered whole where no read and no write failed, or there was no memory
+  -- an input within the limit is answered whole if no read and no write failed, unless there was no memory
   pub output : args ≡ [] → (input : List ℕ) → before.left ≡ Some input → length input ≤ limit
       → ¬ HasFailed before.read_failures after.read_failures → ¬ HasFailed before.write_failures after.write_failures
       → (status ≡ NoMemory) ⊎ WritesOutput IsAnswer input before.written after.written status
-  -- and a longer one is reported
+  -- a longer input is reported, under the same conditions
   pub too_long : args ≡ [] → (input : List ℕ) → before.left ≡ Some input → limit < length input
       → ¬ HasFailed before.read_failures after.read_failures → ¬ HasFailed before.write_failures after.write_failures
       → (status ≡ NoMemory) ⊎ (status ≡ TooLong)
-  -- what was taken and what was written, by status
+  -- the bytes taken and the bytes written, by status
   pub run : args ≡ [] → HasRun IsAnswer limit before.left after.left before.written after.written status
-  -- a prefix of the whole output, where a write failed
+  -- a prefix of the whole output was written if a write failed
   pub prefix_on_write_fault : args ≡ [] → status ≡ WriteFault → (input : List ℕ) (answers : List AnswerText)
       → before.left ≡ Some input
       → AreAnswers IsAnswer (lines input) answers → AppendsPrefix before.written after.written (written_of answers)
   -- at most 16 steps a byte and 1,248 a line
   pub cost : args ≡ [] → Spends limit 16 1248 before.left after.left before.steps after.steps
-  -- what the source was asked for
+  -- the bound on the reads of the source
   pub asked : args ≡ [] → AskedWithin limit before.asked after.asked
-  -- other arguments
+  -- the usage line is written for other arguments
   pub usage : IsUsageFault args
       → WritesText usage_line Usage before.written after.written before.write_failures after.write_failures status
   pub usage_only : status ≡ Usage → IsUsageFault args
-  -- which count of failures rose, by status
+  -- the count of failures that rose, by status
   pub failures : HasFailures before.read_failures after.read_failures before.write_failures after.write_failures status
-  -- a run by other arguments reads nothing
+  -- a run with other arguments reads nothing
   pub untouched : IsUsageFault args → ReadsNothing before after
-  -- without memory nothing was done
+  -- nothing was done without memory
   pub memory : status ≡ NoMemory → after ≡ before

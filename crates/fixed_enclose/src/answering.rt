@@ -45,7 +45,7 @@ use line_engine::{MAX_ANSWER, MAX_LINE};
 use std::sync::ledger::Ledger;
 use text_buffer::TextBuffer;
 
-/// The words before a line's first two spaces, and all that follows the second.
+/// The words before a line's first two spaces, and everything after the second.
 #[derive(Drop)]
 struct Fields<'a> {
     radix: &'a [u8],
@@ -53,7 +53,7 @@ struct Fields<'a> {
     numeral: &'a [u8],
 }
 
-/// The words of a line, split at its first two spaces. None where it has fewer.
+/// Splits a line at its first two spaces. `None` if it has fewer.
 fn split_line(line: &[u8]) -> Option<Fields<'_>>
     ensures { MatchOption result (count_of space line.now < 2)
         (λ f. HasWords line.now (f.radix.now ∷ f.format.now ∷ []) f.numeral.now) }
@@ -71,7 +71,7 @@ fn split_line(line: &[u8]) -> Option<Fields<'_>>
     })
 }
 
-/// What a line asks for.
+/// The request of a line.
 #[derive(Drop)]
 struct Task<'a> {
     radix: Radix,
@@ -79,7 +79,7 @@ struct Task<'a> {
     numeral: &'a [u8],
 }
 
-/// What a line asks for, or its first fault.
+/// Reads the request of a line, or its first fault.
 fn read_task(line: &[u8]) -> Result<Task<'_>, EncloseFault>
     ensures task { MatchResult result (λ t. Asks line.now (task_of t.radix t.format t.numeral.now))
         (λ fault. IsFirstFault fault line.now) }
@@ -172,7 +172,7 @@ fn push_ends<const N: usize, L: Ledger>(
     push_verdict(out, exact);
 }
 
-/// Appends the answer to a line, without a newline; or appends nothing and returns why the line is refused.
+/// Appends the answer to a line, without a newline, or appends nothing and returns why the line is refused.
 pub fn answer_or_refuse<const N: usize, L: Ledger>(
     line: &[u8],
     out: &mut TextBuffer<N>,

@@ -17,8 +17,8 @@ use fixed_read::{ReadNumber, read_format};
 use fixed_steps::Steps;
 use std::sync::ledger::Ledger;
 
-/// The bits of the two values of a format that are nearest to a number, below and above. Both are those of the number
-/// where the format has it.
+/// The bits of the two values of a format that are nearest to a number, below and above. Both are the number's if the
+/// format has it.
 #[derive(Clone, Copy, Debug, PartialEq, Eq)]
 pub struct Enclosure {
     /// The bits of the greatest value that is not above the number.
@@ -27,13 +27,13 @@ pub struct Enclosure {
     pub hi: i128,
 }
 
-/// The bits of the greatest value of a format that is not above a numeral's value, and of the least that is not below
-/// it. It takes no memory, and at most sixteen steps for each byte, and 1,152.
+/// Returns the bits of the greatest value of a format that is not above a numeral's value, and of the least that is not
+/// below it. It does not allocate, and takes at most sixteen steps for each byte, and 1,152.
 ///
 /// # Errors
 ///
-/// A numeral whose value has no value of the format below or above it is refused as `Overflow`; other bytes are refused
-/// with the kind of their cause.
+/// Refuses a numeral as `Overflow` if the format has no value below or above its value, and other bytes with the kind
+/// of their cause.
 pub fn enclose<L: Ledger>(
     bytes: &[u8],
     radix: Radix,
@@ -71,7 +71,7 @@ fn read_floor<L: Ledger>(
     read_format(bytes, radix, format, ReadMode::Floor, steps)
 }
 
-/// The read number, which is the lower end of the enclosure. `None` where it is out of range.
+/// Returns the read number, which is the lower end of the enclosure. `None` if it is out of range.
 fn lower_end(found: &ReadNumber) -> Option<i128>
     ensures image { (v : ℤ) → IsNumber (number_in found.now) v
         → IfSome result (λ c. IsImage Checked found.now.format.signed found.now.format.width v c) }
@@ -83,8 +83,8 @@ fn lower_end(found: &ReadNumber) -> Option<i128>
     found.image(Policy::Checked)
 }
 
-/// The enclosure of a value that was read in mode `Floor`. The read number is the lower end; the upper end is the same
-/// where the value was a whole number of ulps, else the next. `None` where an end is out of range.
+/// Returns the enclosure of a value that was read in mode `Floor`. The read number is the lower end. The upper end is
+/// the same if the value was a whole number of ulps, else the next. `None` if an end is out of range.
 fn ends_of(found: &ReadNumber) -> Option<Enclosure>
     ensures ends { IfSome result (λ e. (v : ℤ) → IsNumber (number_in found.now) v
         → (e.lo ≡ v) × (e.hi ≡ upper found.now.exact v)) }
@@ -105,7 +105,7 @@ fn ends_of(found: &ReadNumber) -> Option<Enclosure>
     }
 }
 
-/// The upper end of an enclosure by its lower end, and whether the value is that end.
+/// Returns the upper end of an enclosure by its lower end, and whether the value is that end.
 fn upper_end(lo: i128, exact: bool) -> i128
     requires { IsWide lo }
     ensures { result ≡ upper exact lo }

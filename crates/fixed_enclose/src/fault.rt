@@ -4,7 +4,7 @@ ghost use Rattle.std.specs.Prelude.{◌≡◌};
 
 use fixed_respell::Fault;
 
-/// Why a line asks for no enclosure, in the order in which the faults are looked for.
+/// Why a line requests no enclosure, in the order in which the faults are checked.
 #[derive(Clone, Copy, Debug, PartialEq, Eq)]
 pub enum EncloseFault {
     /// It has more than 1,048,576 bytes.
@@ -20,7 +20,7 @@ pub enum EncloseFault {
 impl EncloseFault {
     ghost use Rattle.fixed_enclose.specs.Answer.{fault_message};
 
-    /// The message of the fault, as an answer reports it.
+    /// The message of the fault, as in an answer.
     pub fn words(self) -> &'static str
         ensures { result.now ≡ fault_message self }
     {

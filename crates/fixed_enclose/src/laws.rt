@@ -13,12 +13,12 @@ pub fn none_is_tighter()
     ensures { NoneIsTighter }
 {}
 
-/// The two ends are equal exactly where the value is a whole number of ulps.
+/// The two ends are equal exactly if the value is a whole number of ulps.
 pub fn exact_where_equal()
     ensures { ExactWhereEqual }
 {}
 
-/// Bytes have at most one enclosure in a format, and where they have one they are not refused.
+/// Bytes have at most one enclosure in a format, and if they have one, they are not refused.
 pub fn pair_is_the_one()
     ensures { PairIsTheOne }
 {}

@@ -1,4 +1,4 @@
-//! The program: what its arguments ask for.
+//! The program: its arguments and its run.
 
 ghost use Rattle.std.specs.Prelude.{◌≡◌, ◌≤◌, ◌<◌, ◌⊎◌, List, ℕ, [], Some, length};
 ghost use Rattle.line_engine.specs.AnswerText.{AnswerText};
@@ -17,12 +17,12 @@ use run_engine::run_lines;
 use std::alloc::Global;
 use std::sync::ledger::Ledger;
 
-/// What is written for any argument.
+/// The usage line.
 const USAGE: &[u8] = b"usage: enclose_tool\n";
 
 /// Answers each line of an input of at most 4,294,967,296 bytes with the two values of its format that enclose its
-/// numeral. It takes no arguments: where there is one, it writes the usage line and reads nothing. It takes memory for
-/// one line buffer before the first read.
+/// numeral. It takes no arguments: if there is one, it writes the usage line and reads nothing. It allocates one line
+/// buffer before the first read.
 pub fn run_enclose<S: Source, K: Sink, L: Ledger>(
     alloc: Global,
     words: &[String],
@@ -43,7 +43,7 @@ pub fn run_enclose<S: Source, K: Sink, L: Ledger>(
         → ¬ HasFailed (K.failures sink.old) (K.failures sink.new)
         → (result ≡ Status.NoMemory) ⊎ (result ≡ Status.TooLong) }
 
-    // What was taken and what was written, by status, also after a failed read or write.
+    // What was read and written, by status, also after a failed read or write.
     ensures run { words.now ≡ []
         → HasRun IsAnswer MAX_LIMIT (S.left source.old) (S.left source.new) (K.written sink.old)
         (K.written sink.new) result }
@@ -54,8 +54,7 @@ pub fn run_enclose<S: Source, K: Sink, L: Ledger>(
     ensures cost { words.now ≡ []
         → Spends MAX_LIMIT 16 1248 (S.left source.old) (S.left source.new) steps.old steps.new }
 
-    // What the source was asked for: no read asked for more than the limit and one byte less those taken, or for more
-    // than 4,096.
+    // What reads requested: none requested more than the limit and one byte, less the bytes read, or more than 4,096.
     ensures asked { words.now ≡ [] → AskedWithin MAX_LIMIT (S.asked source.old) (S.asked source.new) }
 
     // With an argument.
@@ -65,7 +64,7 @@ pub fn run_enclose<S: Source, K: Sink, L: Ledger>(
     ensures usage_only { result ≡ Status.Usage → ¬ (words.now ≡ []) }
     ensures untouched { ¬ (words.now ≡ []) → source.new ≡ source.old }
 
-    // Which count of failures rose, by status; and what was left alone.
+    // Which count of failures rose, by status; and what was left unchanged.
     ensures failures { HasFailures (S.failures source.old) (S.failures source.new) (K.failures sink.old)
         (K.failures sink.new) result }
     ensures memory { result ≡ Status.NoMemory

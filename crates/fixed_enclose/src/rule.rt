@@ -1,4 +1,4 @@
-//! The rule of the program: each line is answered with the two values of its format that enclose its numeral.
+//! The rule of the program. It answers each line with the two values of its format that enclose its numeral.
 
 ghost use Rattle.std.proofs.Common.{lit<};
 ghost use Rattle.fixed_enclose.specs.Answer.{IsAnswer};
@@ -14,7 +14,7 @@ use std::sync::ledger::Ledger;
 
 /// The rule that answers a line `RADIX FORMAT NUMERAL`: with the line's first fault; else with the fault for which its
 /// numeral is refused; else with the shortest decimal and the bits of the greatest value of the format that is not
-/// above the numeral's, those of the least that is not below it, and `exact` where they are equal, else `wide`.
+/// above the numeral's, those of the least that is not below it, and `exact` if they are equal, else `wide`.
 #[derive(Clone, Copy, Debug, PartialEq, Eq)]
 pub struct EncloseRule;
 

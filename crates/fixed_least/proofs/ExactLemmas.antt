@@ -1,4 +1,4 @@
--- A numeral's value from one reading or two: its ulps of 2^-64, and its whole part.
+-- The value of a numeral in ulps of 2^-64 and its whole part, from one reading or two.
 use Rattle.std.proofs.Common.{◌≡◌, ℕ, ◌+◌, ◌-◌, ◌*◌, ◌^◌, ◌<◌, ◌≤◌, ◌↔◌, Bool, true, false, IsTrue, sym, ap, ◌∙◌, subst, arith, pow_pos, ⊎_elim, mul-le-mul_right, mul-le-mul_left}
 use Rattle.std.specs.Prelude.{Some, None}
 use Rattle.std.proofs.Math.Nat.{le_of_mul-le-mul_left}
@@ -21,12 +21,12 @@ use Rattle.fixed_least.specs.Inner.Valued.{IsValueOf}
 use Rattle.fixed_least.specs.declared.exact.Exact.{Exact}
 use Rattle.fixed_least.specs.Lemmas.HoldingLemmas.{frac_most, split_power, width_most}
 
--- numbers of one sign are equal where their magnitudes are
+-- numbers of one sign are equal if their magnitudes are
 same_magnitude : (minus : Bool) (m n : ℕ) → with_sign minus m ≡ with_sign minus n → m ≡ n
 same_magnitude false m n e = omega (arith, ints, e)
 same_magnitude true m n e = omega (arith, ints, e)
 
--- a reading towards zero at a fraction length f: the magnitude in ulps, rounded down
+-- a reading towards zero at fraction length f: its magnitude in ulps, rounded down
 record IsReadDown (r : Radix) (p : Parts) (f : ℕ) (found : ReadNumber) : Type 0 where
   high : ℕ
   not_above : IsNotAbove ((magnitude r p).num * 2 ^ f) (magnitude r p).den (high * 2 ^ 64 + found.low)
@@ -50,7 +50,7 @@ read_down r p f found at x =
       sign = x.sign;
     })
 
--- a multiple of the denominator is the number that it is rounded to
+-- a multiple of the denominator, divided by it and rounded down, loses nothing
 whole_is_rounded : (m den q k : ℕ) → 0 < den → IsNotAbove m den q → m ≡ k * den → m ≡ q * den
 whole_is_rounded m den q k some h e =
     let itself : IsRounded TowardsZero false m den k = record { at_most = omega (arith, e); next = omega (arith, e, some) } in
@@ -61,7 +61,7 @@ exact_ulps r p fine h is =
     let k = h.exact.0 is in
     whole_is_rounded ((magnitude r p).num * 2 ^ 64) (magnitude r p).den (h.high * 2 ^ 64 + fine.low) k.0 (magnitude_pos r p) h.not_above k.1
 
--- ---- no format holds a numeral with more fraction bits than 64
+-- ---- no format holds a numeral with more than 64 fraction bits
 held_is_whole : (r : Radix) (p : Parts) (f : FormatParts) → IsTypeFormat f.width f.frac → Holds r p f → IsWholeUlps r p 64
 held_is_whole r p f is h =
     let up : ℕ = 2 ^ f.frac in
@@ -118,7 +118,7 @@ coarse_part r p fine coarse h c is small =
     let P : ℕ → Type 0 = λ n. IsNotAbove n (magnitude r p).den (c.high * 2 ^ 64 + coarse.low) in
     whole_part (magnitude r p).num (magnitude r p).den h.high (c.high * 2 ^ 64 + coarse.low) fine.low (magnitude_pos r p) (exact_ulps r p fine h is) small (subst P one c.not_above)
 
--- ---- no format holds a numeral with more whole bits than 64
+-- ---- no format holds a numeral with more than 64 whole bits
 count_small : (s : Bool) (n k : ℕ) (minus : Bool) → n ≤ 64 → IsInRange s n (with_sign minus k) → k < 2 ^ 64
 count_small s n k false most h = let e = (ends_wide s n most).1.high in let u = h.high in omega (arith, ints)
 count_small s n k true most h = let e = (ends_wide s n most).0.low in let u = h.low in omega (arith, ints)

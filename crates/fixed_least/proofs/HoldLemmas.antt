@@ -1,4 +1,4 @@
--- Ulps in longer ulps.
+-- A value in ulps of 2^-64, counted in the longer ulps of a format.
 use Rattle.std.proofs.Common.{◌≡◌, ℕ, ◌-◌, ◌*◌, ◌/◌, ◌^◌, ◌<◌, ◌↔◌, Bool, IsTrue, sym, ◌∙◌, subst, arith, pow_pos, div-add-mod'}
 use Rattle.fixed_bits.specs.Formats.{FormatParts}
 use Rattle.fixed_bits.specs.Ranges.{IsInRange}

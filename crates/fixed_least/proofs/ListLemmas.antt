@@ -1,4 +1,4 @@
--- Lists of lines that grow by one, and what is found of them.
+-- Lists of lines that grow by one line, and what is found for them.
 use Rattle.std.proofs.Common.{◌≡◌, ℕ, ◌+◌, ◌<◌, ◌≤◌, ◌⊎◌, List, [], ◌∷◌, ◌++◌, length, refl, sym, ap, ◌∙◌, subst, arith, inl, inr, Option, Some, None, get_or, replicate, zero, suc, append_assoc, append-nil}
 use Rattle.std.proofs.lemmas.Grind.{flat_map-append}
 use Rattle.fixed_bits.specs.Formats.{FormatParts, IsTypeFormat}
@@ -22,7 +22,7 @@ pub numerals_one_more : (r : Radix) (done : List (List ℕ)) (line : List ℕ) �
 numerals_one_more r [] line all here = (here, tt)
 numerals_one_more r (first ∷ done) line all here = (all.0, numerals_one_more r done line all.1 here)
 
--- what is noted for a format, of the lines so far
+-- 0 if a format holds all lines so far, else the number of the first line that it refuses
 abbrev pub NotedSoFar : Radix → FormatParts → List (List ℕ) → ℕ → Type 0
 NotedSoFar r f done n = ((n ≡ 0) × AllHold r f done) ⊎ IsFirstRefused r f done n
 
@@ -37,7 +37,7 @@ refused_longer r f done line n h = record {
   place_is = h.place_is;
 }
 
--- a format has the value of a line exactly where it holds it
+-- a format holds a line if it has the line's value
 value_holds : (r : Radix) (f : FormatParts) (line : List ℕ) (value : Option Exact) → IsTypeFormat f.width f.frac → IsExactOf r line value → HasValue f value → HoldsLine r f line
 value_holds r f line None is exact has = absurd has
 value_holds r f line (Some e) is exact has = record { parts = exact.parts; numeral = exact.numeral; holds = (exact_decides r exact.parts f e.negative e.ulps is exact.value_of).1 has }
@@ -69,11 +69,11 @@ noted_one_more r f done line value place old new is exact place_is before (inr (
   place_is = h.2 ∙ place_is;
 })
 
--- one line more
+-- the split of the lines after one more line
 pub split_more : (whole done rest after : List (List ℕ)) (line : List ℕ) → whole ≡ done ++ rest → rest ≡ line ∷ after → whole ≡ (done ++ line ∷ []) ++ after
 split_more whole done rest after line split first = split ∙ (ap (λ l. done ++ l) first ∙ sym (append_assoc done (line ∷ []) after))
 
--- what is found where all lines are done
+-- what is found after the last line
 pub least_found : (r : Radix) (whole done rest : List (List ℕ)) (slots found : List ℕ) → whole ≡ done ++ rest → rest ≡ [] → AllNumerals r done → ((f : FormatParts) → IsTypeFormat f.width f.frac → NotedSoFar r f done (get_or slots (slot_of f) 0)) → length found ≤ 248
     → ((f : FormatParts) → IsTypeFormat f.width f.frac → rank f < length found → (get_or found (rank f) 0 ≡ get_or slots (slot_of f) 0) × (get_or slots (slot_of f) 0 ≡ 0 → ⊥))
     → ((f : FormatParts) → IsTypeFormat f.width f.frac → rank f ≡ length found → get_or slots (slot_of f) 0 ≡ 0) → IsLeast r whole found
@@ -105,7 +105,7 @@ pub nil_of : (xs : List ℕ) → length xs ≡ 0 → xs ≡ []
 nil_of [] e = refl
 nil_of (x ∷ xs) e = absurd (omega (arith, e))
 
--- lines about an outcome, and one more
+-- the answers about an outcome, with one more
 pub lines_one_more : (places : List ℕ) (k : ℕ) (answers : List AnswerText) (answer : AnswerText) → AreLines places k answers → IsLeastLine places (k + length answers) answer → AreLines places k (answers ++ answer ∷ [])
 lines_one_more places k [] answer all here = let P : ℕ → Type 0 = λ n. IsLeastLine places n answer in let e : k + 0 ≡ k = omega arith in (subst P e here, tt)
 lines_one_more places k (first ∷ answers) answer all here = let P : ℕ → Type 0 = λ n. IsLeastLine places n answer in let e : k + length (first ∷ answers) ≡ k + 1 + length answers = omega arith in (all.0, lines_one_more places (k + 1) answers answer all.1 (subst P e here))
@@ -114,21 +114,10 @@ pub written_one_more : (answers : List AnswerText) (answer : AnswerText) (old ne
 written_one_more answers answer old new before is = is ∙ (ap (λ l. l ++ reply_line answer) before ∙ (ap (λ l. written_of answers ++ l) (sym (append-nil (reply_line answer))) ∙ sym (flat_map-append reply_line answers (answer ∷ []))))
 
 -- ---- before the first line
--- all fraction lengths of each kind are left
+-- every fraction length of each kind is still possible
 pub all_living : (slots lows highs : List ℕ) → ((i : ℕ) → get_or slots i 0 ≡ 0) → ((j : ℕ) → j < 8 → get_or lows j 0 ≡ 0) → ((j : ℕ) → j < 8 → get_or highs j 0 ≡ kind_width j + 1) → AreLiving slots lows highs
 all_living slots lows highs none low high = record {
   order = λ j is. rw (low j is) (omega arith);
   most = λ j is. rw (high j is) (omega arith);
   living = λ j is k w. rw (low j is, high j is) ((λ _. none (slot j k)), (λ _. (omega arith, omega arith)));
 }
-
-pub high_at : (j : ℕ) → j < 8 → get_or (9 ∷ 9 ∷ 17 ∷ 17 ∷ 33 ∷ 33 ∷ 65 ∷ 65 ∷ []) j 0 ≡ kind_width j + 1
-high_at zero l = refl
-high_at (suc zero) l = refl
-high_at (suc (suc zero)) l = refl
-high_at (suc (suc (suc zero))) l = refl
-high_at (suc (suc (suc (suc zero)))) l = refl
-high_at (suc (suc (suc (suc (suc zero))))) l = refl
-high_at (suc (suc (suc (suc (suc (suc zero)))))) l = refl
-high_at (suc (suc (suc (suc (suc (suc (suc zero))))))) l = refl
-high_at (suc (suc (suc (suc (suc (suc (suc (suc n)))))))) l = absurd (omega (arith, l))

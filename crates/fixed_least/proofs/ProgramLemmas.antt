@@ -1,4 +1,4 @@
--- Arguments name one radix.
+-- Arguments name just one radix.
 use Rattle.std.specs.Prelude.{String}
 use Rattle.std.proofs.Common.{◌≡◌, List, [], ◌∷◌, sym, ◌∙◌}
 use Rattle.std.specs.declared.alloc.Global.{Global}

@@ -1,4 +1,4 @@
--- The slots of formats: kinds, intervals of fraction lengths, and what one value more does to them.
+-- The slots of formats: kinds, intervals of fraction lengths, and how one more value changes them.
 use Rattle.std.proofs.Common.{◌≡◌, ℕ, ◌+◌, ◌-◌, ◌*◌, ◌^◌, ◌<◌, ◌≤◌, ◌⊎◌, Bool, true, false, List, length, get_or, set, refl, sym, ap, ◌∙◌, subst, arith, pow_pos, inl, inr, ⊎_elim, mul-le-mul_left}
 use Rattle.std.specs.Prelude.{Option, Some, None}
 use Rattle.std.proofs.Math.Nat.{le_of_mul-le-mul_left}
@@ -31,7 +31,7 @@ kind_back false n (inr (inl e)) = rw e (record { width = refl; signed = refl; be
 kind_back false n (inr (inr (inl e))) = rw e (record { width = refl; signed = refl; below = omega arith })
 kind_back false n (inr (inr (inr e))) = rw e (record { width = refl; signed = refl; below = omega arith })
 
--- a format of its own kind
+-- a format from its sign rule, width and fraction length
 abbrev parts : Bool → ℕ → ℕ → FormatParts
 parts s n f = record { signed = s; width = n; frac = f }
 
@@ -43,7 +43,7 @@ kind_format_is f is =
 pub kind_width_most : (j : ℕ) → kind_width j ≤ 64
 kind_width_most j = grind arith
 
--- ---- the formats of a kind that have a value have neighbouring fraction lengths
+-- ---- a value fits a kind's formats in one interval of fraction lengths
 smaller_in : (s : Bool) (n c d : ℕ) (minus : Bool) → c ≤ d → IsInRange s n (with_sign minus d) → IsInRange s n (with_sign minus c)
 smaller_in true n c d false le h = record { low = omega (arith, ints); high = let u = h.high in omega (arith, ints) }
 smaller_in false n c d false le h = record { low = omega (arith, ints); high = let u = h.high in omega (arith, ints) }
@@ -75,7 +75,7 @@ value_between : (j a k b : ℕ) (value : Option Exact) → a ≤ k → k ≤ b �
 value_between j a k b None low high most x y = absurd x
 value_between j a k b (Some e) low high most x y = between (kind_signed j) (kind_width j) a k b e.negative e.ulps low high most x y
 
--- ---- one kind
+-- ---- one kind after a value
 -- a place was written from `low` up to `first`, and from `high` down to `end`
 pub record IsRefutedKind (j low first end high : ℕ) (value : Option Exact) (place : ℕ) (old mid new : List ℕ) : Type 0 where
   pub low_first : low ≤ first
@@ -89,7 +89,7 @@ pub record IsRefutedKind (j low first end high : ℕ) (value : Option Exact) (pl
   pub down_others : (i : ℕ) → (i < slot j end) ⊎ (slot j high ≤ i) → get_or new i 0 ≡ get_or mid i 0
   pub down_held : first < end → HasValue (kind_format j (end - 1)) value
 
--- where a fraction length lies
+-- the five intervals that `low`, `first`, `end` and `high` make of the fraction lengths
 by_part : (P : Type 0) (low first end high k : ℕ) → ((k < low) → P) → (low ≤ k → k < first → P) → (first ≤ k → k < end → P) → (end ≤ k → k < high → P) → (high ≤ k → P) → P
 by_part P low first end high k a b c d e =
     ⊎_elim a (λ (x : low ≤ k). ⊎_elim (λ (y : k < first). b x y) (λ (y : first ≤ k). ⊎_elim (λ (z : k < end). c y z) (λ (z : end ≤ k). ⊎_elim (λ (w : k < high). d z w) e (cases_lt k high)) (cases_lt k end)) (cases_lt k first)) (cases_lt k low)
@@ -122,12 +122,12 @@ module _ (j low first end high : ℕ) (value : Option Exact) (place : ℕ) (old 
       (λ l. inl ((λ e. let in_ = (living k w).1 e in omega (arith, l, in_.1)), past k l))
 
 -- ---- all kinds, one after another
--- what the first kinds have come to
+-- the slots after the value was noted for the kinds below j
 pub record NotedBelow (j : ℕ) (value : Option Exact) (place : ℕ) (old new : List ℕ) : Type 0 where
   pub passed : (i k : ℕ) → i < j → k ≤ kind_width i → IsNoted (kind_format i k) value place (get_or old (slot i k) 0) (get_or new (slot i k) 0)
   pub ahead : (i : ℕ) → slot j 0 ≤ i → get_or new i 0 ≡ get_or old i 0
 
--- another kind's slots are left alone
+-- the slots of another kind are outside those of kind j
 other_kind : (i j k : ℕ) → (i ≡ j → ⊥) → k ≤ kind_width i → (slot i k < slot j 0) ⊎ (slot j 65 ≤ slot i k)
 other_kind i j k apart w =
     let small = kind_width_most i in
@@ -178,14 +178,14 @@ module _ (j low high first end : ℕ) (value : Option Exact) (place : ℕ) (star
           let N : ℕ → Type 0 = λ n. IsNoted (kind_format n k) value place (get_or start (slot n k) 0) (get_or new (slot n k) 0) in
           subst N (sym e) (subst O (h.ahead (slot j k) (omega arith)) (noted k wide))
 
--- all kinds are passed
+-- the value was noted for all kinds
 pub all_noted : (value : Option Exact) (place : ℕ) (old new : List ℕ) → NotedBelow 8 value place old new → AreNoted value place old new
 all_noted value place old new h f is =
     let k = kind_back f.signed f.width is.is_width in
     let P : FormatParts → Type 0 = λ g. IsNoted g value place (get_or old (slot_of f) 0) (get_or new (slot_of f) 0) in
     subst P (kind_format_is f is) (h.passed (kind_of f.signed f.width) f.frac k.below (omega (arith, is.within, k.width)))
 
--- ---- one format more of a kind
+-- ---- one more format of a kind
 module _ (j low high k : ℕ) (value : Option Exact) (place : ℕ) (start old : List ℕ) (fits : slot j k < length old) (none : HasValue (kind_format j k) value → ⊥) where
   pub up_refused : ((i : ℕ) → low ≤ i → i < k → (get_or old (slot j i) 0 ≡ place) × (HasValue (kind_format j i) value → ⊥)) → (i : ℕ) → low ≤ i → i < k + 1 → (get_or (set old (slot j k) place) (slot j i) 0 ≡ place) × (HasValue (kind_format j i) value → ⊥)
   up_refused before i l m =

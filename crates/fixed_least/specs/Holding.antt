@@ -1,4 +1,4 @@
--- Which formats hold a list of numerals, and which is the least.
+-- The formats that hold a list of numerals, and the least of them.
 use Rattle.std.specs.Prelude.{◌≡◌, ◌+◌, ◌*◌, ◌^◌, ℕ, List, [], ◌∷◌, ◌++◌, length}
 use Rattle.fixed_bits.specs.Formats.{FormatParts, IsTypeFormat}
 use Rattle.fixed_bits.specs.Ranges.{IsInRange}
@@ -7,7 +7,7 @@ use Rattle.fixed_numeral.specs.Value.{magnitude}
 use Rattle.fixed_numeral.specs.declared.radix.Radix.{Radix}
 use Rattle.fixed_bits.specs.Order.{IsBefore}
 
--- a format holds a numeral with these parts: its value is a whole number of ulps, which is in range
+-- a format holds a numeral with these parts: its value is a whole number of ulps, and in range
 pub record Holds (r : Radix) (p : Parts) (f : FormatParts) : Type 0 where
   pub count : ℕ
   pub exact : (magnitude r p).num * 2 ^ f.frac ≡ count * (magnitude r p).den
@@ -34,7 +34,7 @@ abbrev pub AllNumerals : Radix → List (List ℕ) → Type 0
 AllNumerals r [] = Unit {0}
 AllNumerals r (line ∷ lines) = IsNumeral r line × AllNumerals r lines
 
--- the first line that the format does not hold is at this place, from 1
+-- `place` is the number, from 1, of the first line that the format does not hold
 pub record IsFirstRefused (r : Radix) (f : FormatParts) (lines : List (List ℕ)) (place : ℕ) : Type 0 where
   pub before : List (List ℕ)
   pub line : List ℕ

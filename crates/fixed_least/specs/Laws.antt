@@ -1,4 +1,4 @@
--- What the laws of this crate say.
+-- Statements of this crate's laws.
 use Rattle.std.specs.Prelude.{◌≡◌, ◌↔◌, ◌++◌, ℕ, List, String, length}
 use Rattle.std.specs.declared.alloc.Global.{Global}
 use Rattle.fixed_bits.specs.Formats.{FormatParts, IsTypeFormat}
@@ -10,37 +10,37 @@ use Rattle.fixed_least.specs.Least.{IsLeast, IsLeastLine, IsNoNumeral, IsWholeAn
 use Rattle.fixed_least.specs.Program.{NamesRadix}
 use Rattle.fixed_least.specs.declared.least.LeastFault.{LeastFault}
 
--- the format whose rank is the count of places is the least one that holds each line, and there is no other
+-- a format is the least that holds each line exactly if its rank is the count of places
 abbrev pub LeastIsTheOne : Type 0
 LeastIsTheOne = (r : Radix) (lines : List (List ℕ)) (places : List ℕ) → IsLeast r lines places → (f : FormatParts)
     → IsTypeFormat f.width f.frac
     → (rank f ≡ length places) ↔ IsLeastFormat r lines f
 
--- a list has one outcome: the places are determined
+-- a list has at most one outcome: the places are determined
 abbrev pub PlacesAreTheOnes : Type 0
 PlacesAreTheOnes = (r : Radix) (lines : List (List ℕ)) (a b : List ℕ) → IsLeast r lines a → IsLeast r lines b → a ≡ b
 
--- and a list that is none has one fault
+-- a list with a line that is not a numeral has one fault
 abbrev pub LeastFaultIsTheOne : Type 0
 LeastFaultIsTheOne = (r : Radix) (lines : List (List ℕ)) (a b : LeastFault) → IsNoNumeral r lines a
     → IsNoNumeral r lines b → a ≡ b
 
--- each line about an outcome is one
+-- each line about an outcome is determined
 abbrev pub LeastLineIsTheOne : Type 0
 LeastLineIsTheOne = (places : List ℕ) (i : ℕ) (a b : AnswerText) → IsLeastLine places i a → IsLeastLine places i b
     → a ≡ b
 
--- an input has one answer
+-- an input has at most one answer
 abbrev pub AnswerIsTheOne : Type 0
 AnswerIsTheOne = (r : Radix) (input : List ℕ) (a b : AnswerText) → IsWholeAnswer r input a → IsWholeAnswer r input b
     → a ≡ b
 
--- arguments name one radix
+-- arguments name at most one radix
 abbrev pub NamedRadixIsTheOne : Type 0
 NamedRadixIsTheOne = (args : List (String Global)) (r s : Radix) → NamesRadix args r → NamesRadix args s → r ≡ s
 
--- the least format of a longer list does not come before that of the shorter, and where none holds the shorter none
--- holds the longer
+-- the least format of a longer list does not come before that of the shorter, and a format that does not hold the
+-- shorter does not hold the longer
 abbrev pub LongerHasNoLesser : Type 0
 LongerHasNoLesser = (r : Radix) (lines more : List (List ℕ))
     → ((f g : FormatParts) → IsLeastFormat r lines f → IsLeastFormat r (lines ++ more) g → ¬ IsBefore g f)

@@ -1,4 +1,4 @@
--- What is found of a list of numerals, and what is written about it.
+-- The outcome for a list of numerals, and the text written about it.
 use Rattle.std.specs.Prelude.{◌≡◌, ◌⊎◌, ◌+◌, ◌≤◌, ◌<◌, ℕ, List, [], ◌∷◌, ◌++◌, length, get_or, codes, decimal, true}
 use Rattle.std.specs.Prelude.{false}
 use Rattle.fixed_bits.specs.Formats.{FormatParts, IsTypeFormat}
@@ -15,7 +15,7 @@ use Rattle.fixed_bits.specs.Order.{rank}
 use Rattle.fixed_least.specs.declared.least.LeastFault.{LeastFault}
 use Rattle.fixed_least.specs.declared.least.LeastFault.TheVariants.{NotNumeral}
 
--- for each format before the least one, the first place whose numeral it does not hold
+-- `places` has, for each format before the least, the first place whose numeral it does not hold
 pub record IsLeast (r : Radix) (lines : List (List ℕ)) (places : List ℕ) : Type 0 where
   pub short : length places ≤ 248
   pub numerals : AllNumerals r lines
@@ -29,7 +29,7 @@ place_of (NotNumeral place error) = place
 abbrev pub kind_at : LeastFault → ParseErrorKind
 kind_at (NotNumeral place error) = error
 
--- the first line that is no numeral is at this place, from 1, and this is why
+-- `fault` has the number, from 1, of the first line that is not a numeral, and why it is not
 pub record IsNoNumeral (r : Radix) (lines : List (List ℕ)) (fault : LeastFault) : Type 0 where
   pub before : List (List ℕ)
   pub line : List ℕ
@@ -45,7 +45,7 @@ IsHeadText places text = ((length places ≡ 248) × (text ≡ codes "none"))
     ⊎ ((f : FormatParts) × IsTypeFormat f.width f.frac × (rank f ≡ length places)
     × (text ≡ codes "least " ++ format_text f))
 
--- the line that refutes the format with this number
+-- the line that refutes the format of rank k
 abbrev pub IsRefutedText : List ℕ → ℕ → List ℕ → Type 0
 IsRefutedText places k text = (f : FormatParts) × IsTypeFormat f.width f.frac × (rank f ≡ k)
     × (text ≡ format_text f ++ (codes " line " ++ decimal (get_or places k 0)))
@@ -68,7 +68,7 @@ pub record IsLeastText (places text : List ℕ) : Type 0 where
   pub count : length answers ≡ length places + 1
   pub text_is : text ≡ written_of answers
 
--- what is written for a line that is no numeral
+-- the text written for a line that is not a numeral
 abbrev pub fault_line : LeastFault → List ℕ
 fault_line why = codes "error: line "
     ++ (decimal (place_of why) ++ (codes ": " ++ (message_of (kind_at why) ++ 10 ∷ [])))
@@ -80,7 +80,7 @@ pub record IsLeastAnswer (r : Radix) (input : List ℕ) (answer : AnswerText) : 
   pub text : IsLeastText places answer.text
   pub fault : answer.fault ≡ false
 
--- the answer to an input with a line that is no numeral
+-- the answer to an input with a line that is not a numeral
 pub record IsFaultAnswer (r : Radix) (input : List ℕ) (answer : AnswerText) : Type 0 where
   pub why : LeastFault
   pub is_none : IsNoNumeral r (lines input) why

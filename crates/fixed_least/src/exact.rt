@@ -1,4 +1,4 @@
-//! A numeral's value, where some format has it.
+//! A numeral's value, if some format has it.
 
 ghost use Rattle.std.specs.Prelude.{◌≡◌, ◌≤◌, ◌+◌, ◌*◌, ◌^◌, false};
 ghost use Rattle.fixed_numeral.specs.Answer.{IsReadOrRefused};
@@ -10,7 +10,7 @@ use fixed_read::read_format;
 use fixed_steps::Steps;
 use std::sync::ledger::Ledger;
 
-/// A value in ulps of 2^-64, of which each value of a format is a whole number.
+/// A value in ulps of 2^-64. Each value of a format is a whole number of these.
 #[derive(Clone, Copy, Debug, PartialEq, Eq)]
 pub struct Exact {
     /// Whether the numeral has a minus.
@@ -19,7 +19,7 @@ pub struct Exact {
     pub ulps: u128,
 }
 
-/// A format of 64 bits without a sign.
+/// Returns a format of 64 bits without a sign.
 fn long_format(frac: u32) -> Format
     requires { frac ≤ 64 }
     ensures { result ≡ record { signed = false; width = 64; frac = frac } }
@@ -27,19 +27,19 @@ fn long_format(frac: u32) -> Format
     Format::new(false, 64, frac).unwrap()
 }
 
-/// The ulps of a value by its whole part and the ulps of its fraction.
+/// Returns the ulps of a value by its whole part and the ulps of its fraction.
 fn ulps_of(whole: u64, fraction: u64) -> u128
     ensures { result ≡ whole * 2 ^ 64 + fraction }
 {
     whole as u128 * 18446744073709551616 + fraction as u128
 }
 
-/// The value of a numeral; `None` where no format has it. It reads the numeral once for the ulps of 2^-64, and where
-/// these have more than 64 bits once more for the whole part.
+/// Returns the value of a numeral; `None` if no format has it. It reads the numeral once for the ulps of 2^-64, and
+/// once more for the whole part if these have more than 64 bits.
 ///
 /// # Errors
 ///
-/// Other bytes than a numeral of the radix are refused with the kind of their cause.
+/// Refuses bytes that are not a numeral of the radix with the kind of their cause.
 pub fn exact_of<L: Ledger>(
     bytes: &[u8],
     radix: Radix,

@@ -21,7 +21,7 @@ fn fits(format: Format, negative: bool, bits: u128) -> bool
     format.lowest() <= number && number <= format.greatest()
 }
 
-/// A number of ulps in longer ulps, rounded down.
+/// Converts a number of ulps to longer ulps, rounded down.
 fn longer_ulps(ulps: u128, shift: u32) -> u128
     requires { shift ≤ 64 }
     ensures { result ≡ ulps / 2 ^ shift }
@@ -29,7 +29,7 @@ fn longer_ulps(ulps: u128, shift: u32) -> u128
     ulps >> shift
 }
 
-/// A number of longer ulps in ulps.
+/// Converts a number of longer ulps to ulps.
 fn shorter_ulps(bits: u128, shift: u32) -> u128
     requires shift { shift ≤ 64 }
     requires room { bits * 2 ^ shift < 2 ^ 128 }
@@ -38,7 +38,7 @@ fn shorter_ulps(bits: u128, shift: u32) -> u128
     bits << shift
 }
 
-/// How many longer ulps a number of ulps is; `None` where it is not a whole number of them.
+/// Converts a number of ulps to longer ulps; `None` if it is not a whole number of them.
 fn whole_ulps(ulps: u128, shift: u32) -> Option<u128>
     requires { shift ≤ 64 }
     ensures { MatchOption result ((k : ℕ) → ¬ (ulps ≡ k * 2 ^ shift)) (λ k. ulps ≡ k * 2 ^ shift) }
@@ -61,7 +61,7 @@ fn has_ulps(format: Format, value: Exact) -> bool
     }
 }
 
-/// Whether a format has the value of a numeral, which is `None` where no format has it.
+/// Whether a format has the value of a numeral, which is `None` if no format has it.
 pub fn has_value(format: Format, value: Option<Exact>) -> bool
     ensures { IsTrue result ↔ HasValue format value }
 {

@@ -10,7 +10,7 @@ ghost use Rattle.fixed_least.specs.Laws.{
   PlacesAreTheOnes,
 };
 
-/// The format whose rank is the count of places is the least one that holds each numeral, and there is no other.
+/// The format whose rank is the count of line numbers is the only least one that holds each numeral.
 pub fn least_is_the_one()
     ensures { LeastIsTheOne }
 {}
@@ -35,7 +35,8 @@ pub fn longer_has_no_lesser()
     ensures { LongerHasNoLesser }
 {}
 
-/// A list has at most one first line that is no numeral, with one cause; and each line about an outcome is one.
+/// A list has at most one first line that is not a numeral, with one cause; and there is one of each line about an
+/// outcome.
 pub fn least_line_is_the_one()
     ensures fault { LeastFaultIsTheOne }
     ensures line { LeastLineIsTheOne }

@@ -1,4 +1,4 @@
-//! The least format that holds a list exactly, and for each lesser one a numeral that it does not hold.
+//! The least format that holds a list exactly, and for each lesser format a numeral that it does not hold.
 
 ghost use Rattle.std.specs.Prelude.{
   ◌≡◌,
@@ -40,16 +40,16 @@ use text_buffer::TextBuffer;
 /// Why a text is not a list of numerals.
 #[derive(Clone, Copy, Debug, PartialEq, Eq)]
 pub enum LeastFault {
-    /// The line at this place, from 1, is not a numeral, for this reason.
+    /// The line with this number, from 1, is not a numeral.
     NotNumeral {
-        /// Which line.
+        /// The line number.
         place: u64,
-        /// Why.
+        /// The reason.
         error: ParseFixedError,
     },
 }
 
-/// For each format before the least one, in the order of formats, the place of a numeral that it does not hold.
+/// For each format before the least one, in the order of formats, the line number of a numeral that it does not hold.
 #[derive(Drop)]
 pub struct Least {
     places: [u64; FORMAT_COUNT],
@@ -67,7 +67,7 @@ impl Model for Least {
     ghost invariant = { λ l. l.refuted ≤ FORMAT_COUNT };
 }
 
-/// The format with a rank.
+/// Returns the format with a rank.
 fn format_of_rank(i: usize) -> Format
     requires { i < FORMAT_COUNT }
     ensures format { IsTypeFormat result.width result.frac }
@@ -76,7 +76,7 @@ fn format_of_rank(i: usize) -> Format
     format_at(i).unwrap()
 }
 
-/// The place in the slot of the format with a rank.
+/// Returns the line number in the slot of the format with a rank.
 fn place_of_rank(slots: &[u64; SLOTS], i: usize) -> u64
     requires { i < FORMAT_COUNT }
     ensures { (f : FormatParts) → IsTypeFormat f.width f.frac → rank f ≡ i → result ≡ get_or slots.now (slot_of f) 0 }
@@ -84,7 +84,7 @@ fn place_of_rank(slots: &[u64; SLOTS], i: usize) -> u64
     slots[slot_of(format_of_rank(i))]
 }
 
-/// The least format without a place in its slot, and the places of those before it.
+/// Returns the least format without a line number in its slot, and the line numbers of the formats before it.
 fn least_of(slots: &[u64; SLOTS]) -> Least
     ensures short { length result ≤ FORMAT_COUNT }
     ensures places { (f : FormatParts) → IsTypeFormat f.width f.frac → rank f < length result
@@ -106,19 +106,19 @@ fn least_of(slots: &[u64; SLOTS]) -> Least
     }
 }
 
-/// No place in any slot.
+/// Returns slots without line numbers.
 fn no_places() -> [u64; SLOTS]
     ensures { result ≡ replicate SLOTS 0 }
 {
     [0u64; SLOTS]
 }
 
-/// The least format that holds each line of a text exactly, as a numeral of the radix. It takes no memory, and reads a
-/// line at most twice.
+/// Finds the least format that holds each line of a text exactly, as a numeral of the radix. It does not allocate, and
+/// reads a line at most twice.
 ///
 /// # Errors
 ///
-/// The first line that is not a numeral is reported with its place and the kind of its cause.
+/// Reports the first line that is not a numeral, with its number and the kind of its cause.
 pub fn least_format<L: Ledger>(
     text: &[u8],
     radix: Radix,
@@ -144,7 +144,7 @@ pub fn least_format<L: Ledger>(
 }
 
 impl Least {
-    /// The least format that holds each numeral; `None` where no format does.
+    /// Returns the least format that holds each numeral; `None` if no format does.
     pub fn chosen(&self) -> Option<Format>
         ensures { MatchOption result (length self.now ≡ FORMAT_COUNT) (λ f. IsTypeFormat f.width f.frac
             × (rank f ≡ length self.now)) }
@@ -152,7 +152,7 @@ impl Least {
         format_at(self.refuted)
     }
 
-    /// How many formats come before it: 248 where there is none.
+    /// How many formats come before the least one: 248 if there is none.
     pub fn refuted(&self) -> usize
         ensures count { result ≡ length self.now }
         ensures most { result ≤ FORMAT_COUNT }
@@ -160,7 +160,7 @@ impl Least {
         self.refuted
     }
 
-    /// The first place whose numeral the format with this number does not hold.
+    /// Returns the number of the first line whose numeral the format with this number does not hold.
     pub fn place(&self, i: usize) -> u64
         requires { i < length self.now }
         ensures { result ≡ get_or self.now i 0 }
@@ -169,7 +169,7 @@ impl Least {
         self.places[i]
     }
 
-    /// The line that names the format.
+    /// Returns the line that names the format.
     fn head_line(&self) -> Answer
         ensures text { IsHeadText self.now result.text }
         ensures fault { result.fault ≡ false }
@@ -185,7 +185,7 @@ impl Least {
         Answer::of(out.as_bytes(), false)
     }
 
-    /// The line that names a lesser format and the place that refutes it.
+    /// Returns the line that names a lesser format and the line number that refutes it.
     fn refuted_line(&self, k: usize) -> Answer
         requires low { k < length self.now }
         requires most { k < FORMAT_COUNT }
@@ -200,8 +200,8 @@ impl Least {
         Answer::of(out.as_bytes(), false)
     }
 
-    /// A line about the outcome: line 0 names the format, and each further line a lesser format and the place that
-    /// refutes it.
+    /// Returns a line about the outcome: line 0 names the format, and each further line a lesser format and the line
+    /// number that refutes it.
     pub fn line(&self, i: usize) -> Answer
         requires { i ≤ length self.now }
         ensures { IsLeastLine self.now i result }

@@ -1,8 +1,8 @@
 //! The least format that holds each numeral of a list exactly.
 //!
 //! `exact` reads a numeral into a value that decides for each format whether it holds the numeral (`holding`). `slots`
-//! keeps for each format the first place whose numeral it does not hold, and `least` goes through a text and says which
-//! format is the least and what refutes those before it.
+//! keeps for each format the first line whose numeral it does not hold, and `least` goes through a text and says which
+//! format is the least and which lines refute those before it.
 #![tactic(auto)]
 
 mod exact;

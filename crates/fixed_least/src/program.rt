@@ -1,4 +1,4 @@
-//! The program: what its arguments ask for.
+//! The program: its arguments and its run.
 
 ghost use Rattle.std.specs.Prelude.{◌≡◌, ◌≤◌, ◌<◌, ◌⊎◌, List, ℕ, Some, length, MatchOption};
 ghost use Rattle.fixed_numeral.specs.declared.radix.Radix.{Radix};
@@ -19,10 +19,10 @@ use line_engine::{MAX_WHOLE, Sink, Source, Status, run_whole, write_text};
 use std::alloc::Global;
 use std::sync::ledger::Ledger;
 
-/// What is written for other arguments.
+/// The usage line.
 const USAGE: &[u8] = b"usage: least_tool [RADIX]\n";
 
-/// The radix that the arguments name: 10 where there are none. `None` where they name none.
+/// Returns the radix that the arguments name, 10 if there are none. `None` if they do not name one.
 fn radix_of(words: &[String]) -> Option<Radix>
     ensures { MatchOption result (IsUsageFault words.now) (λ r. NamesRadix words.now r) }
 {
@@ -35,8 +35,8 @@ fn radix_of(words: &[String]) -> Option<Radix>
 
 /// Answers an input of at most 1,048,576 bytes with the least format that holds each of its lines exactly.
 ///
-/// No argument or one radix word names the radix of the numerals, 10 where there is none. For other arguments it writes
-/// the usage line and reads nothing. It takes memory for 1,048,577 bytes before the first read, and for the answer.
+/// No argument or one radix word names the radix of the numerals, 10 if there is none. For other arguments it writes
+/// the usage line and reads nothing. It allocates 1,048,577 bytes before the first read, and the answer.
 pub fn run_least<S: Source, K: Sink, L: Ledger>(
     alloc: Global,
     words: &[String],
@@ -60,7 +60,7 @@ pub fn run_least<S: Source, K: Sink, L: Ledger>(
         → ¬ HasFailed (K.failures sink.old) (K.failures sink.new)
         → (result ≡ Status.NoMemory) ⊎ (result ≡ Status.TooLong) }
 
-    // What was taken and what was written, by status, also after a failed read or write.
+    // What was read and written, by status, also after a failed read or write.
     ensures run { (r : Radix) → NamesRadix words.now r
         → HasWholeRun (IsWholeAnswer r) 1048576 (S.left source.old) (S.left source.new) (K.written sink.old)
         (K.written sink.new) result }
@@ -69,11 +69,10 @@ pub fn run_least<S: Source, K: Sink, L: Ledger>(
         → S.left source.old ≡ Some input
         → IsWholeAnswer r input answer → AppendsPrefix (K.written sink.old) (K.written sink.new) answer.text }
 
-    // A run that ended before its input did, or for want of memory, left the sink as it was.
+    // A run that ended before its input did, or for lack of memory, left the sink unchanged.
     ensures unwritten { EndsBeforeWriting result → sink.new ≡ sink.old }
 
-    // What the source was asked for: no read asked for more than the limit and one byte less those taken, or for more
-    // than 4,096.
+    // What reads requested: none requested more than the limit and one byte, less the bytes read, or more than 4,096.
     ensures asked { (r : Radix) → NamesRadix words.now r
         → AskedWithin 1048576 (S.asked source.old) (S.asked source.new) }
 

@@ -1,4 +1,5 @@
-//! The rule of the program: an input is answered with the least format of its lines, and what refutes the lesser ones.
+//! The rule of the program. It answers an input with the least format of its lines, and the lines that refute lesser
+//! ones.
 
 ghost use Rattle.std.specs.Prelude.{◌≡◌, ◌++◌, IfOk, OnOk};
 ghost use Rattle.line_engine.specs.Output.{reply_line};
@@ -30,7 +31,7 @@ fn push_line(text: &mut Vec<u8>, answer: &Answer) -> Result<(), AllocError>
     Ok(())
 }
 
-/// The lines about the outcome, each with a newline.
+/// Returns the lines about the outcome, each with a newline.
 fn least_text(alloc: Global, least: &Least) -> Result<Vec<u8>, AllocError>
     ensures { IfOk result (λ text. IsLeastText least.now text.items) }
 {
@@ -44,7 +45,7 @@ fn least_text(alloc: Global, least: &Least) -> Result<Vec<u8>, AllocError>
     Ok(text)
 }
 
-/// What is written for a line that is not a numeral.
+/// Returns the answer for a line that is not a numeral.
 fn fault_text(alloc: Global, fault: LeastFault) -> Result<Vec<u8>, AllocError>
     ensures { IfOk result (λ text. text.items ≡ fault_line fault) }
 {

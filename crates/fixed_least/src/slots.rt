@@ -1,10 +1,10 @@
-//! For each format the first place whose numeral it does not hold.
+//! For each format the number of the first line whose numeral it does not hold.
 //!
-//! A place is in a slot, one for each kind of format (a width and a sign rule) and fraction length. The formats of a
-//! kind that hold a value have neighbouring fraction lengths: a longer fraction takes a smaller ulp, and leaves fewer
-//! whole bits. So those of a kind that hold every value so far are always an interval, and a value is held by all of
-//! them where it is held by the first and by the last. Two arrays keep the ends of the eight intervals, and a value is
-//! tried there only.
+//! A line number is in a slot, one for each kind of format (a width and a sign rule) and fraction length. The formats
+//! of a kind that hold a value have neighbouring fraction lengths: a longer fraction has a smaller ulp and leaves fewer
+//! whole bits. So the formats of a kind that hold every value so far are always an interval, and all of them hold a
+//! value if the first and the last do. Two arrays keep the ends of the eight intervals, and a value is only tried
+//! there.
 
 ghost use Rattle.std.specs.Prelude.{◌≡◌, ◌⊎◌, ◌↔◌, ◌≤◌, ◌<◌, ◌+◌, ◌-◌, ◌*◌, ℕ, IsTrue, true, false, get_or};
 ghost use Rattle.fixed_bits.specs.Formats.{IsTypeFormat};
@@ -29,7 +29,7 @@ use fixed_bits::Format;
 /// How many kinds of formats there are: two sign rules at each of four widths.
 pub const KINDS: usize = 8;
 
-/// How many fraction lengths a kind has at most.
+/// The most fraction lengths of a kind.
 const LENGTHS: usize = 65;
 
 /// How many slots there are.
@@ -51,7 +51,7 @@ fn width_of(kind: usize) -> u32
     }
 }
 
-/// The format of a kind with this fraction length.
+/// Returns the format of a kind with this fraction length.
 fn format_of(kind: usize, frac: usize) -> Format
     requires kind { kind < KINDS }
     requires frac { frac ≤ kind_width kind }
@@ -60,7 +60,7 @@ fn format_of(kind: usize, frac: usize) -> Format
     Format::new(kind % 2 == 1, width_of(kind), frac as u32).unwrap()
 }
 
-/// The slot of a format.
+/// Returns the slot of a format.
 pub fn slot_of(format: Format) -> usize
     requires { IsTypeFormat format.width format.frac }
     ensures slot { result ≡ slot_of format }
@@ -76,7 +76,7 @@ pub fn slot_of(format: Format) -> usize
     kind * LENGTHS + format.frac() as usize
 }
 
-/// The intervals of all fraction lengths: for each kind the first, and the one after the last.
+/// Returns the intervals of all fraction lengths: for each kind the first, and the one after the last.
 pub fn all_lengths() -> ([usize; KINDS], [usize; KINDS])
     ensures low { (j : ℕ) → j < 8 → get_or result.0 j 0 ≡ 0 }
     ensures high { (j : ℕ) → j < 8 → get_or result.1 j 0 ≡ kind_width j + 1 }
@@ -84,8 +84,8 @@ pub fn all_lengths() -> ([usize; KINDS], [usize; KINDS])
     ([0; KINDS], [9, 9, 17, 17, 33, 33, 65, 65])
 }
 
-/// Writes a place into the slots of the formats of a kind with the fraction lengths from `low` on, up to the first that
-/// has the value or to `high`. Gives the fraction length at which it ended.
+/// Writes a line number into the slots of the formats of a kind with the fraction lengths from `low` on, up to the
+/// first that has the value or to `high`. Returns the fraction length at which it ended.
 fn refute_up(
     slots: &mut [u64; SLOTS],
     kind: usize,
@@ -114,8 +114,8 @@ fn refute_up(
     high
 }
 
-/// Writes a place into the slots of the formats of a kind with the fraction lengths below `high`, down to the last that
-/// has the value or to `low`. Gives the fraction length below which it ended.
+/// Writes a line number into the slots of the formats of a kind with the fraction lengths below `high`, down to the
+/// last that has the value or to `low`. Returns the fraction length below which it ended.
 fn refute_down(
     slots: &mut [u64; SLOTS],
     kind: usize,
@@ -146,8 +146,8 @@ fn refute_down(
     end
 }
 
-/// Writes a place into the slots of the formats of a kind that hold every value before this one and do not have this
-/// one. Those that hold every value so far are the fraction lengths from `low` on and below `high`; gives the new ones.
+/// Writes a line number into the slots of the formats of a kind that hold every value before this one but not this one.
+/// Those that hold every value so far are the fraction lengths from `low` on and below `high`. Returns the new two.
 fn refute_kind(
     slots: &mut [u64; SLOTS],
     kind: usize,
@@ -174,7 +174,7 @@ fn refute_kind(
     (first, end)
 }
 
-/// Writes a place into the slot of each format that holds every value before this one and does not have this one.
+/// Writes a line number into the slot of each format that holds every value before this one but not this one.
 pub fn refute(
     slots: &mut [u64; SLOTS],
     lows: &mut [usize; KINDS],

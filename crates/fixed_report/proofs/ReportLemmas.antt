@@ -1,5 +1,5 @@
--- What one more numeral makes of what is kept, and that there is one report.
-use Rattle.std.proofs.Common.{◌≡◌, ◌≤◌, ℕ, suc, length, append_assoc, codes, decimal, ◌⊎◌, Result, Ok, Err, is_ok, OnOk, ◌^◌, ◌<◌, ℤ, Bool, true, false, List, [], ◌∷◌, ◌++◌, inl, inr, refl, sym, ap, ◌∙◌, subst, arith}
+-- How one more numeral changes the kept one, and that numerals have one report.
+use Rattle.std.proofs.Common.{◌≡◌, ◌≤◌, ℕ, suc, length, append_assoc, codes, decimal, ◌⊎◌, Option, None, Some, is_some, IsSome, ◌^◌, ◌<◌, ℤ, Bool, true, false, List, [], ◌∷◌, ◌++◌, inl, inr, refl, sym, ap, ◌∙◌, subst, arith}
 use Rattle.std.proofs.lemmas.Bool.{false≢true}
 use Rattle.std.proofs.lemmas.Int.{ints}
 use Rattle.fixed_bits.proofs.Public.{has_none, in_wide}
@@ -19,7 +19,9 @@ use Rattle.fixed_numeral.specs.declared.radix.Radix.{Radix}
 use Rattle.fixed_read.proofs.Public.{read_unique}
 use Rattle.fixed_read.specs.Reading.{IsReadNumber}
 use Rattle.fixed_report.specs.Laws.{AreSame, GreatestHasBits, ReportIsTheOne}
-use Rattle.fixed_report.specs.Report.{AreIn, HasReport, IsIn, Kept}
+use Rattle.fixed_report.specs.Report.{AreIn, HasReport, IsIn, IsLostBy, Kept, longest_kept}
+use Rattle.fixed_report.specs.declared.report.Lost.{Lost}
+use Rattle.fixed_report.specs.declared.report.Lost.TheVariants.{NoMemory, TooLong}
 use Rattle.fixed_report.specs.Text.{IsGreatestText, greatest_text}
 use Rattle.fixed_show.specs.ShowBlock.{HasNoBits, IsReadAs}
 use Rattle.fixed_show.specs.ShownErrors.{AreShownErrors}
@@ -38,7 +40,7 @@ in_within mode r f bytes bits out width h = record {
   within = few_ulps (is_minus h.parts.sign) h.read.ulps (subst (λ (v : ℤ). IsWide v) h.read.value (in_wide f.signed f.width h.number width.most h.image.in_range));
 }
 
--- ---- one more
+-- ---- one more numeral
 pub one_in : (mode : ReadMode) (r : Radix) (f : FormatParts) (entries found : List Entry) (e : Entry) → IsIn mode r f e.numeral → AreIn mode r f entries found → AreIn mode r f (entries ++ e ∷ []) (found ++ e ∷ [])
 one_in mode r f [] found e h are = ([], refl, inl (h, ap (λ t. t ++ e ∷ []) are))
 one_in mode r f (x ∷ xs) found e h (more, are, inl (first, is)) = (more ++ e ∷ [], one_in mode r f xs more e h are, inl (first, ap (λ t. t ++ e ∷ []) is))
@@ -49,7 +51,7 @@ one_out mode r f [] found e h are = ([], refl, inr (h, are))
 one_out mode r f (x ∷ xs) found e h (more, are, inl (first, is)) = (more, one_out mode r f xs more e h are, inl (first, is))
 one_out mode r f (x ∷ xs) found e h (more, are, inr (none, is)) = (more, one_out mode r f xs more e h are, inr (none, is))
 
--- ---- in range or not
+-- ---- no numeral is both in range and without bits
 in_or_not : (mode : ReadMode) (r : Radix) (f : FormatParts) (bytes : List ℕ) → IsIn mode r f bytes → HasNoBits mode r bytes f Checked → ⊥
 in_or_not mode r f bytes a (kind, inl b) = b.none (a.read.parts, a.read.numeral)
 in_or_not mode r f bytes a (kind, inr b) =
@@ -57,7 +59,7 @@ in_or_not mode r f bytes a (kind, inr b) =
     let n : a.read.number ≡ b.2.number = read_unique mode r b.2.parts f.frac a.read.number b.2.number (subst (λ (q : Parts). IsReadNumber mode r q f.frac a.read.number) p a.read.read) b.2.read in
     has_none f.signed f.width b.2.number a.bits b.2.out_of_range (subst (λ (x : ℤ). IsImage Checked f.signed f.width x a.bits) n a.read.image)
 
--- ---- one report
+-- ---- the report is unique
 in_one : (mode : ReadMode) (r : Radix) (f : FormatParts) (entries a b : List Entry) → AreIn mode r f entries a → AreIn mode r f entries b → a ≡ b
 in_one mode r f [] a b x y = x ∙ sym y
 in_one mode r f (e ∷ es) a b (m, are, inl (h, is)) (n, same, inl (k, it)) = is ∙ ap (λ t. e ∷ t) (in_one mode r f es m n are same) ∙ sym it
@@ -81,7 +83,7 @@ pub report_one : ReportIsTheOne
 report_one mode r f entries a b p q one other (m, are, x) (n, same, y) =
     kept_one mode r f.frac m a b p q one other x (subst (λ (t : List Entry). IsKept mode r f.frac t b q other) (sym (in_one mode r f entries m n are same)) y)
 
--- ---- it has bits
+-- ---- the kept numeral has bits
 found_in : (mode : ReadMode) (r : Radix) (f : FormatParts) (entries found before : List Entry) (e : Entry) (after : List Entry) → AreIn mode r f entries found → found ≡ before ++ e ∷ after → IsIn mode r f e.numeral
 found_in mode r f [] found before e after are split = absurd (nothing_first mode r f.frac before e after (sym split ∙ are))
 found_in mode r f (x ∷ xs) found before e after (more, are, inr (none, is)) split = found_in mode r f xs more before e after are (sym is ∙ split)
@@ -96,42 +98,87 @@ pub has_bits : GreatestHasBits
 has_bits mode r f entries place numeral (found, are, x) none =
     in_or_not mode r f numeral (found_in mode r f entries found x.before (record { place = place; numeral = numeral }) x.after are x.split) none
 
--- ---- the text
+-- ---- the text of a report
 pub greatest_pushed : (o0 o1 o2 o3 o4 o5 o6 o7 o8 name digits error ulps : List ℕ) (place : ℕ) → o0 ≡ [] → o1 ≡ o0 ++ codes "greatest error in " → o2 ≡ o1 ++ name → o3 ≡ o2 ++ 32 ∷ [] → o4 ≡ o3 ++ digits → digits ≡ decimal place
     → o5 ≡ o4 ++ codes ": " → o6 ≡ o5 ++ error → o7 ≡ o6 ++ codes ", in ulps: " → o8 ≡ o7 ++ ulps → o8 ≡ greatest_text name place error ulps
 greatest_pushed o0 o1 o2 o3 o4 o5 o6 o7 o8 name digits error ulps place none a b c d is e f g h =
     let x : o8 ≡ (((((((([] ++ codes "greatest error in ") ++ name) ++ 32 ∷ []) ++ decimal place) ++ codes ": ") ++ error) ++ codes ", in ulps: ") ++ ulps) = cc in
     x ∙ simp append_assoc
 
--- ---- one more of what is kept
-pub more_in : (mode : ReadMode) (r : Radix) (f : FormatParts) (entries : List Entry) (e : Entry) (lost lost' : Bool) (g g' : GreatestError) → lost ≡ false → IsIn mode r f e.numeral
+-- ---- the kept numeral after one more
+pub more_in : (mode : ReadMode) (r : Radix) (f : FormatParts) (entries : List Entry) (e : Entry) (lost lost' : Option Lost) (g g' : GreatestError) → lost ≡ None → IsIn mode r f e.numeral
     → ((found : List Entry) → HasGreatest found g → HasGreatest (found ++ e ∷ []) g') → HasReport mode r f entries lost g → HasReport mode r f (entries ++ e ∷ []) lost' g'
 more_in mode r f entries e lost lost' g g' kept h step known _ =
     let k = known kept in
     (k.0 ++ e ∷ [], one_in mode r f entries k.0 e h k.1, step k.0 k.2)
 
-pub more_out : (mode : ReadMode) (r : Radix) (f : FormatParts) (entries : List Entry) (e : Entry) (lost : Bool) (g : GreatestError) → HasNoBits mode r e.numeral f Checked → HasReport mode r f entries lost g → HasReport mode r f (entries ++ e ∷ []) lost g
+pub more_out : (mode : ReadMode) (r : Radix) (f : FormatParts) (entries : List Entry) (e : Entry) (lost : Option Lost) (g : GreatestError) → HasNoBits mode r e.numeral f Checked → HasReport mode r f entries lost g → HasReport mode r f (entries ++ e ∷ []) lost g
 more_out mode r f entries e lost g h known kept =
     let k = known kept in
     (k.0, one_out mode r f entries k.0 e h k.1, k.2)
 
-pub kept_out : (inside k : Kept) (entries : List Entry) (e : Entry) → inside ≡ k → HasNoBits inside.mode inside.radix e.numeral inside.format Checked → HasReport k.mode k.radix k.format entries k.is_lost k.greatest
-    → HasReport k.mode k.radix k.format (entries ++ e ∷ []) k.is_lost k.greatest
+pub kept_out : (inside k : Kept) (entries : List Entry) (e : Entry) → inside ≡ k → HasNoBits inside.mode inside.radix e.numeral inside.format Checked → HasReport k.mode k.radix k.format entries k.lost k.greatest
+    → HasReport k.mode k.radix k.format (entries ++ e ∷ []) k.lost k.greatest
 kept_out inside k entries e same h known =
-    more_out k.mode k.radix k.format entries e k.is_lost k.greatest (subst (λ (x : Kept). HasNoBits x.mode x.radix e.numeral x.format Checked) same h) known
+    more_out k.mode k.radix k.format entries e k.lost k.greatest (subst (λ (x : Kept). HasNoBits x.mode x.radix e.numeral x.format Checked) same h) known
 
-pub kept_in : (inside k : Kept) (entries : List Entry) (e : Entry) (lost : Bool) (new : GreatestError) → inside ≡ k → inside.is_lost ≡ false → IsIn inside.mode inside.radix inside.format e.numeral
-    → ((found : List Entry) → HasGreatest found inside.greatest → HasGreatest (found ++ e ∷ []) new) → HasReport k.mode k.radix k.format entries k.is_lost k.greatest → HasReport k.mode k.radix k.format (entries ++ e ∷ []) lost new
+pub kept_in : (inside k : Kept) (entries : List Entry) (e : Entry) (lost : Option Lost) (new : GreatestError) → inside ≡ k → inside.lost ≡ None → IsIn inside.mode inside.radix inside.format e.numeral
+    → ((found : List Entry) → HasGreatest found inside.greatest → HasGreatest (found ++ e ∷ []) new) → HasReport k.mode k.radix k.format entries k.lost k.greatest → HasReport k.mode k.radix k.format (entries ++ e ∷ []) lost new
 kept_in inside k entries e lost new same kept h step =
-    subst (λ (x : Kept). HasReport x.mode x.radix x.format entries x.is_lost x.greatest → HasReport x.mode x.radix x.format (entries ++ e ∷ []) lost new) same
-    (more_in inside.mode inside.radix inside.format entries e inside.is_lost lost inside.greatest new kept h step)
+    subst (λ (x : Kept). HasReport x.mode x.radix x.format entries x.lost x.greatest → HasReport x.mode x.radix x.format (entries ++ e ∷ []) lost new) same
+    (more_in inside.mode inside.radix inside.format entries e inside.lost lost inside.greatest new kept h step)
 
--- what a call that ended well promises
-pub ok_given : {T E : Type 0} → (r : Result T E) (P : Type 0) → is_ok r ≡ true → OnOk r P → P
-ok_given (Ok x) P h k = k
-ok_given (Err e) P h k = absurd (false≢true h)
+-- ---- the reason for a loss
+pub none_of : (lost : Option Lost) → is_some lost ≡ false → lost ≡ None
+none_of None e = refl
+none_of (Some why) e = absurd (false≢true (sym e))
 
--- the numeral that is kept is no longer than the most
+none_some : (lost : Option Lost) (why : Lost) → lost ≡ None → lost ≡ Some why → ⊥
+none_some lost why a b = absurd (false≢true (ap is_some (sym a) ∙ ap is_some b))
+
+is_long : Option Lost → Bool
+is_long None = false
+is_long (Some NoMemory) = false
+is_long (Some TooLong) = true
+
+pub not_long : Some NoMemory ≡ Some TooLong → ⊥
+unfolding is_long
+not_long e = false≢true (ap is_long e)
+
+-- a numeral out of range loses nothing
+pub lost_out : (inside k : Kept) (numeral : List ℕ) → inside ≡ k → HasNoBits inside.mode inside.radix numeral inside.format Checked → IsLostBy k numeral k.lost
+lost_out inside k numeral same h =
+    let out : HasNoBits k.mode k.radix numeral k.format Checked = subst (λ (x : Kept). HasNoBits x.mode x.radix numeral x.format Checked) same h in
+    record {
+      stays = λ why e. e;
+      long = λ none is more. absurd (in_or_not k.mode k.radix k.format numeral is out);
+      short = λ none few e. none_some k.lost TooLong none e;
+      out = λ none _. none;
+    }
+
+-- a numeral that is longer than `longest_kept` loses the report
+pub lost_long : (inside k : Kept) (numeral : List ℕ) → inside ≡ k → inside.lost ≡ None → IsIn inside.mode inside.radix inside.format numeral → longest_kept < length numeral → IsLostBy k numeral (Some TooLong)
+lost_long inside k numeral same none is more =
+    let here : IsLostBy inside numeral (Some TooLong) = record {
+      stays = λ why e. absurd (none_some inside.lost why none e);
+      long = λ _ _ _. refl;
+      short = λ _ few _. omega (arith, few, more);
+      out = λ _ out. absurd (in_or_not inside.mode inside.radix inside.format numeral is out);
+    } in
+    subst (λ (x : Kept). IsLostBy x numeral (Some TooLong)) same here
+
+-- a shorter numeral loses it only if memory is lacking
+pub lost_short : (inside k : Kept) (numeral : List ℕ) (lost : Option Lost) → inside ≡ k → inside.lost ≡ None → IsIn inside.mode inside.radix inside.format numeral → length numeral ≤ longest_kept → (lost ≡ Some TooLong → ⊥) → IsLostBy k numeral lost
+lost_short inside k numeral lost same none is few other =
+    let here : IsLostBy inside numeral lost = record {
+      stays = λ why e. absurd (none_some inside.lost why none e);
+      long = λ _ _ more. absurd (let no : ⊥ = omega (arith, few, more) in no);
+      short = λ _ _ e. other e;
+      out = λ _ out. absurd (in_or_not inside.mode inside.radix inside.format numeral is out);
+    } in
+    subst (λ (x : Kept). IsLostBy x numeral lost) same here
+
+-- the kept numeral is at most as long as the limit
 pub kept_short : (old new numeral : List ℕ) (most : ℕ) → length old ≤ most → length numeral ≤ most → (new ≡ old) ⊎ (new ≡ numeral) → length new ≤ most
 kept_short old new numeral most a b (inl e) = subst (λ l. length l ≤ most) (sym e) a
 kept_short old new numeral most a b (inr e) = subst (λ l. length l ≤ most) (sym e) b
@@ -148,7 +195,7 @@ text_some inside k numeral name out place error ulps same is at shown said =
     subst (λ (x : Kept). IsGreatestText x.mode x.radix x.format name x.greatest.place x.greatest.numeral.items out) same here
 
 pub text_none : (inside k : Kept) (numeral : List ℕ) → inside ≡ k → numeral ≡ inside.greatest.numeral.items → HasNoBits inside.mode inside.radix numeral inside.format Checked
-    → (k.is_lost ≡ true) ⊎ ((k.greatest.is_some ≡ false) ⊎ HasNoBits k.mode k.radix k.greatest.numeral.items k.format Checked)
+    → IsSome k.lost ⊎ ((k.greatest.is_some ≡ false) ⊎ HasNoBits k.mode k.radix k.greatest.numeral.items k.format Checked)
 text_none inside k numeral same is h =
     let here : HasNoBits inside.mode inside.radix inside.greatest.numeral.items inside.format Checked = subst (λ t. HasNoBits inside.mode inside.radix t inside.format Checked) is h in
     inr (inr (subst (λ (x : Kept). HasNoBits x.mode x.radix x.greatest.numeral.items x.format Checked) same here))

@@ -1,60 +1,70 @@
--- Which of numerals that come one after another has the greatest error in a format.
-use Rattle.std.specs.Prelude.{◌≡◌, ◌⊎◌, ◌≤◌, ℕ, ℤ, Bool, false, List, [], ◌∷◌, length}
+-- The numeral with the greatest error in a format, among numerals that come one after another.
+use Rattle.std.specs.Prelude.{◌≡◌, ◌⊎◌, ◌≤◌, ◌<◌, ℕ, ℤ, Bool, List, [], ◌∷◌, length, Option, None, Some}
 use Rattle.fixed_bits.specs.Formats.{FormatParts}
 use Rattle.fixed_bits.specs.declared.format.Policy.TheVariants.{Checked}
 use Rattle.fixed_bits.specs.declared.mode.ReadMode.{ReadMode}
 use Rattle.fixed_error.specs.Greatest.{Entry, HasGreatest, HasSomeGreatest, IsKept}
 use Rattle.fixed_error.specs.declared.greatest.GreatestError.{GreatestError}
 use Rattle.fixed_numeral.specs.declared.radix.Radix.{Radix}
+use Rattle.fixed_report.specs.declared.report.Lost.{Lost}
+use Rattle.fixed_report.specs.declared.report.Lost.TheVariants.{TooLong}
 use Rattle.fixed_show.specs.ShowBlock.{HasNoBits, IsReadAs}
 
--- bytes are a numeral that is in range of the format after it was read
+-- `bytes` are a numeral in range of the format after reading
 pub record IsIn (mode : ReadMode) (r : Radix) (f : FormatParts) (bytes : List ℕ) : Type 0 where
   pub bits : ℤ
   pub overflowed : Bool
   pub read : IsReadAs mode r bytes f Checked bits overflowed
 
--- those of these that are
+-- `found` are the entries whose numerals are in range
 abbrev pub AreIn : ReadMode → Radix → FormatParts → List Entry → List Entry → Type 0
 AreIn mode r f [] found = found ≡ []
 AreIn mode r f (e ∷ es) found = (more : List Entry) × AreIn mode r f es more
     × ((IsIn mode r f e.numeral × (found ≡ e ∷ more)) ⊎ (HasNoBits mode r e.numeral f Checked × (found ≡ more)))
 
--- whether one is, and of those the first with the greatest error, and its place
+-- `is` says whether an entry is in range; then `place` and `numeral` are those of the first with the greatest error
 abbrev pub IsReported : ReadMode → Radix → FormatParts → List Entry → Bool → ℕ → List ℕ → Type 0
 IsReported mode r f entries is place numeral = (found : List Entry) × AreIn mode r f entries found
     × IsKept mode r f.frac found is place numeral
 
--- this is kept of them, where no memory was wanting and no numeral was too long
-abbrev pub HasReport : ReadMode → Radix → FormatParts → List Entry → Bool → GreatestError → Type 0
-HasReport mode r f entries lost g = lost ≡ false → (found : List Entry) × AreIn mode r f entries found
+-- the report `g` is of these entries, unless it was lost
+abbrev pub HasReport : ReadMode → Radix → FormatParts → List Entry → Option Lost → GreatestError → Type 0
+HasReport mode r f entries lost g = lost ≡ None → (found : List Entry) × AreIn mode r f entries found
     × HasGreatest found g
 
--- how many bytes a numeral has at most that is kept
+-- the longest numeral kept, in bytes
 abbrev pub longest_kept : ℕ
 longest_kept = 1048577
 
--- how many steps one more numeral costs at most, for each of its bytes and beside those: it is read, and compared with
--- the longest that may be kept
+-- the most steps that one more numeral costs, for each of its bytes and besides them: it is read, and compared with the
+-- longest numeral kept
 abbrev pub add_per_byte : ℕ
 add_per_byte = 28
 
 abbrev pub add_extra : ℕ
 add_extra = 20972460
 
--- what is kept: how numerals are read, the one with the greatest error, and whether memory was wanting or a numeral was
--- too long
+-- the state: how numerals are read, the numeral with the greatest error, and why it is not known
 pub record Kept : Type 0 where
   pub radix : Radix
   pub format : FormatParts
   pub mode : ReadMode
   pub greatest : GreatestError
-  pub is_lost : Bool
+  pub lost : Option Lost
 
--- it is kept of some numerals
+-- the state is that of some numerals
 pub record IsSound (k : Kept) : Type 0 where
   pub radix : k.greatest.radix ≡ k.radix
   pub frac : k.greatest.frac ≡ k.format.frac
   pub mode : k.greatest.mode ≡ k.mode
-  pub known : k.is_lost ≡ false → HasSomeGreatest k.greatest
+  pub known : k.lost ≡ None → HasSomeGreatest k.greatest
   pub short : length k.greatest.numeral.items ≤ longest_kept
+
+-- why the report is lost after one more numeral: an earlier reason stays; a numeral in range that is too long to keep
+-- is a reason; a numeral without bits is none; otherwise only lack of memory is one
+pub record IsLostBy (k : Kept) (numeral : List ℕ) (lost : Option Lost) : Type 0 where
+  pub stays : (why : Lost) → k.lost ≡ Some why → lost ≡ Some why
+  pub long : k.lost ≡ None → IsIn k.mode k.radix k.format numeral → longest_kept < length numeral
+      → lost ≡ Some TooLong
+  pub short : k.lost ≡ None → length numeral ≤ longest_kept → ¬ (lost ≡ Some TooLong)
+  pub out : k.lost ≡ None → HasNoBits k.mode k.radix numeral k.format Checked → lost ≡ None

@@ -1,11 +1,11 @@
-//! Of numerals that come one after another the first that has the greatest error in a format, and what is said of it.
+//! Reports the first numeral of a sequence with the greatest error in a format.
 //!
-//! `report` keeps it, and `text` says its place, its error and the same in ulps.
+//! `report` keeps the numeral, and `text` writes its place, its error and the same in ulps.
 #![tactic(auto)]
 
 pub mod laws;
 pub mod report;
 pub mod text;
 
-pub use report::ErrorReport;
+pub use report::{ErrorReport, Lost};
 pub use text::MAX_GREATEST;

@@ -1,14 +1,14 @@
-//! What is kept of numerals that come one after another.
+//! What is kept of a sequence of numerals.
 //!
-//! The error is that of reading into the source format, as `show` gives it. Only the numeral with the greatest error is
-//! kept, and it may have 1,048,577 bytes, the most that a rule is given. So with a report the bound on the steps for a
+//! The error is that of reading into the source format, as `show` writes it. Only the numeral with the greatest error
+//! is kept, and it may have 1,048,577 bytes, the most that a rule gets. So with a report the bound on the steps for a
 //! line is that much higher.
 
-ghost use Rattle.std.specs.Prelude.{◌≡◌, ◌≤◌, ◌+◌, ◌*◌, ◌++◌, ◌∷◌, [], List, false, length, true};
+ghost use Rattle.std.specs.Prelude.{◌≡◌, ◌≤◌, ◌+◌, ◌*◌, ◌++◌, ◌∷◌, [], List, None, false, length, true};
 ghost use Rattle.fixed_bits.specs.declared.format.Policy.TheVariants.{Checked};
 ghost use Rattle.fixed_error.specs.ErrorSize.{IsReadWithin};
 ghost use Rattle.fixed_error.specs.Greatest.{Entry};
-ghost use Rattle.fixed_report.specs.Report.{HasReport, IsIn, add_extra, add_per_byte};
+ghost use Rattle.fixed_report.specs.Report.{HasReport, IsIn, IsLostBy, add_extra, add_per_byte};
 ghost use Rattle.fixed_show.specs.ShowBlock.{HasNoBits};
 
 use fixed_bits::{Format, Policy, ReadMode};
@@ -20,10 +20,10 @@ use std::alloc::Global;
 use std::marker::Model;
 use std::sync::ledger::Ledger;
 
-/// How many bytes a numeral has at most that is kept.
+/// The longest numeral kept, in bytes.
 const LONGEST: usize = 1_048_577;
 
-/// Whether a numeral is in range of a format after it was read.
+/// Whether a numeral reads as a number in a format's range.
 fn is_in<L: Ledger>(
     numeral: &[u8],
     radix: Radix,
@@ -43,15 +43,23 @@ fn is_in<L: Ledger>(
     }
 }
 
-/// Of the numerals so far that are in range of a format the first that has the greatest error. Contracts see it as what
-/// is kept.
+/// The reason why the greatest error of numerals is not known.
+#[derive(Clone, Copy, Debug, PartialEq, Eq)]
+pub enum Lost {
+    /// There was no memory for a numeral.
+    NoMemory,
+    /// A numeral in range has more than 1,048,577 bytes.
+    TooLong,
+}
+
+/// The first numeral so far with the greatest error of those in a format's range. Contracts see it as what is kept.
 #[derive(Drop)]
 pub struct ErrorReport {
     pub(crate) radix: Radix,
     pub(crate) format: Format,
     pub(crate) mode: ReadMode,
     pub(crate) greatest: GreatestError,
-    pub(crate) is_lost: bool,
+    pub(crate) lost: Option<Lost>,
 }
 
 impl Model for ErrorReport {
@@ -64,7 +72,7 @@ impl Model for ErrorReport {
       format = u.format;
       mode = u.mode;
       greatest = u.greatest;
-      is_lost = u.is_lost;
+      lost = u.lost;
     } };
 
     ghost invariant = { λ u. IsSound (record {
@@ -72,17 +80,18 @@ impl Model for ErrorReport {
       format = u.format;
       mode = u.mode;
       greatest = u.greatest;
-      is_lost = u.is_lost;
+      lost = u.lost;
     }) };
 }
 
 impl ErrorReport {
-    /// No numeral so far.
+    /// Returns a report before the first numeral.
     pub fn new(alloc: Global, radix: Radix, format: Format, mode: ReadMode) -> ErrorReport
         ensures radix { result.radix ≡ radix }
         ensures format { result.format ≡ format }
         ensures mode { result.mode ≡ mode }
-        ensures none { HasReport mode radix format [] result.is_lost result.greatest }
+        ensures known { result.lost ≡ None }
+        ensures none { HasReport mode radix format [] result.lost result.greatest }
     {
         let _width = format.width();
         ErrorReport {
@@ -90,42 +99,44 @@ impl ErrorReport {
             format,
             mode,
             greatest: GreatestError::new(alloc, radix, format.frac(), mode),
-            is_lost: false,
+            lost: None,
         }
     }
 
-    /// Whether memory was wanting for a numeral, or one was too long: then nothing is known.
-    pub fn is_lost(&self) -> bool
-        ensures { result ≡ self.now.is_lost }
+    /// Returns the reason why nothing is known, if there is one.
+    pub fn lost(&self) -> Option<Lost>
+        ensures { result ≡ self.now.lost }
     {
-        self.is_lost
+        self.lost
     }
 
-    /// Takes one more numeral, which comes with a place. One that is refused, or that is out of range, is passed over.
-    /// Memory is taken for the numeral with the greatest error alone. Where it is wanting, or a numeral in range has
-    /// more than 1,048,577 bytes, nothing is known from then on.
+    /// Takes one more numeral and its place. A numeral that is refused or out of range is passed over. Memory is taken
+    /// only for the numeral with the greatest error. Without memory, or after a numeral in range of more than 1,048,577
+    /// bytes, nothing is known from then on.
     pub fn add<L: Ledger>(&mut self, numeral: &[u8], place: u64, steps: &mut Steps<L>)
         ensures radix { self.new.radix ≡ self.old.radix }
         ensures format { self.new.format ≡ self.old.format }
         ensures mode { self.new.mode ≡ self.old.mode }
         ensures one_more { (entries : List Entry)
-            → HasReport self.old.mode self.old.radix self.old.format entries self.old.is_lost self.old.greatest
+            → HasReport self.old.mode self.old.radix self.old.format entries self.old.lost self.old.greatest
             → HasReport self.old.mode self.old.radix self.old.format
-            (entries ++ record { place = place; numeral = numeral.now } ∷ []) self.new.is_lost self.new.greatest }
+            (entries ++ record { place = place; numeral = numeral.now } ∷ []) self.new.lost self.new.greatest }
+        ensures lost { IsLostBy self.old numeral.now self.new.lost }
         ensures cost { steps.new ≤ steps.old + add_per_byte * length numeral.now + add_extra }
     {
-        if self.is_lost {
+        if self.lost.is_some() {
             return;
         }
         if !is_in(numeral, self.radix, self.format, self.mode, steps) {
             return;
         }
-        self.is_lost = true;
         if numeral.len() > LONGEST {
+            self.lost = Some(Lost::TooLong);
             return;
         }
-        if self.greatest.add(numeral, place, steps).is_ok() {
-            self.is_lost = false;
+        match self.greatest.add(numeral, place, steps) {
+            Ok(()) => {}
+            Err(_) => self.lost = Some(Lost::NoMemory),
         }
     }
 }

@@ -1,6 +1,6 @@
-//! What is said of the numeral with the greatest error.
+//! The text about the numeral with the greatest error.
 
-ghost use Rattle.std.specs.Prelude.{◌≡◌, ◌⊎◌, ◌≤◌, [], IfNone, IfSome, length, false, true};
+ghost use Rattle.std.specs.Prelude.{◌≡◌, ◌⊎◌, ◌≤◌, [], IfNone, IfSome, IsSome, None, length, false, true};
 ghost use Rattle.fixed_bits.specs.declared.format.Policy.TheVariants.{Checked};
 ghost use Rattle.fixed_report.specs.Text.{IsGreatestText, greatest_text};
 ghost use Rattle.fixed_show.specs.ShowBlock.{HasNoBits};
@@ -13,10 +13,10 @@ use itoa::Buffer;
 use std::sync::ledger::Ledger;
 use text_buffer::TextBuffer;
 
-/// How many bytes the text of a greatest error has at most.
+/// The greatest length of that text, in bytes.
 pub const MAX_GREATEST: usize = 2880;
 
-/// Appends what is said of an error at a place, which has this name.
+/// Appends the text of an error at a place. `name` is what places are called.
 fn push_greatest(out: &mut TextBuffer<MAX_GREATEST>, name: &[u8], place: u64, said: &ErrorTexts)
     requires empty { out.old ≡ [] }
     requires name { length name.now ≤ 8 }
@@ -34,8 +34,8 @@ fn push_greatest(out: &mut TextBuffer<MAX_GREATEST>, name: &[u8], place: u64, sa
 }
 
 impl ErrorReport {
-    /// The place of the numeral with the greatest error, after a name of at most 8 bytes that such places have, its
-    /// error, and the same in ulps, as `show` writes them. None where no numeral was in range, or memory was wanting.
+    /// Returns the place of the numeral with the greatest error, after a name for places of at most 8 bytes, its error,
+    /// and the same in ulps, as `show` writes them. `None`: no numeral was in range, or it was lost.
     pub fn text<L: Ledger>(
         &self,
         name: &[u8],
@@ -43,13 +43,13 @@ impl ErrorReport {
     ) -> Option<TextBuffer<MAX_GREATEST>>
         requires name { length name.now ≤ 8 }
         ensures kept { IfSome result (λ text. self.now.greatest.is_some ≡ true) }
-        ensures known { IfSome result (λ text. self.now.is_lost ≡ false) }
+        ensures known { IfSome result (λ text. self.now.lost ≡ None) }
         ensures text { IfSome result (λ text. IsGreatestText self.now.mode self.now.radix self.now.format name.now
             self.now.greatest.place self.now.greatest.numeral.items text) }
-        ensures none { IfNone result ((self.now.is_lost ≡ true) ⊎ ((self.now.greatest.is_some ≡ false)
+        ensures none { IfNone result (IsSome self.now.lost ⊎ ((self.now.greatest.is_some ≡ false)
             ⊎ HasNoBits self.now.mode self.now.radix self.now.greatest.numeral.items self.now.format Checked)) }
     {
-        if self.is_lost {
+        if self.lost.is_some() {
             return None;
         }
         if !self.greatest.is_some() {

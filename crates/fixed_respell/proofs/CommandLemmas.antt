@@ -1,4 +1,4 @@
--- What arguments ask for.
+-- The command that arguments request.
 use Rattle.std.proofs.Common.{◌≡◌, ℕ, List, [], ◌∷◌, sym, ◌∙◌, ap, arith}
 use Rattle.std.specs.Prelude.{codes, String}
 use Rattle.std.specs.String.{string_bytes}
@@ -17,7 +17,7 @@ numbered_one name number (SelfTest m) (SelfTest n) a b = ap SelfTest (decimal_in
 numbered_one name number (Read m) (SelfTest n) a b = absurd (differ (sym a.0 ∙ b.0))
 numbered_one name number (SelfTest m) (Read n) a b = absurd (differ (sym b.0 ∙ a.0))
 
--- arguments ask for one command
+-- arguments request at most one command
 pub command_one : (args : List (String Global)) (c d : Command) → IsCommand args c → IsCommand args d → c ≡ d
 command_one [] c d a b = a ∙ sym b
 command_one (name ∷ []) c d a b = absurd a

@@ -1,4 +1,4 @@
--- What comes after the words of a line is the end of the line.
+-- The rest after the words of a line is the end of the line.
 use Rattle.std.proofs.Common.{◌≡◌, ℕ, ◌-◌, List, [], ◌∷◌, ◌++◌, length, drop, refl, sym, ap, ◌∙◌, arith, append_assoc, length-append}
 use Rattle.std.proofs.Math.Seq.{drop-append_seam}
 use Rattle.fixed_respell.specs.LineWords.{HasWords, space, spaced}

@@ -1,4 +1,5 @@
--- Worked examples, each decided by one computation: what a numeral of known parts reaches, and what its line is answered.
+-- Worked examples, each decided by one computation: the bits that a numeral of known parts reaches, and the answer to
+-- its line.
 use Rattle.std.proofs.Common.{◌≡◌, ℕ, ◌+◌, ◌-◌, ◌*◌, ◌%◌, ◌^◌, Bool, true, false, cond, IsTrue, List, [], ◌∷◌, length, Option, Some, None, refl, arith, inl, inr, ℤ, pos}
 use Rattle.std.specs.Prelude.{◌≤◌, ◌&&◌, ◌||◌, not, eqb, leb, ltb, int_lt, IfSome, ◌<ℤ◌, ◌<◌}
 use Rattle.std.specs.Bool.{Decides}
@@ -95,7 +96,7 @@ is_not_above num den q = leb (q * den) num && ltb num ((q + 1) * den)
 abbrev is_not_below : ℕ → ℕ → ℕ → Bool
 is_not_below num den q = leb num (q * den) && ltb (q * den) (num + den)
 
--- at most half of den away, and where it is half of it, by the test
+-- q * den is at most half of den away from num, and exactly half only if `at_tie`
 abbrev is_nearest_by : Bool → ℕ → ℕ → ℕ → Bool
 is_nearest_by at_tie num den q = leb (2 * distance num (q * den)) den && (ltb (2 * distance num (q * den)) den || at_tie)
 
@@ -203,7 +204,7 @@ image_is Wrapping true n v e = wrapped_signed n (eqb-true _ _ e) v
 image_is Wrapping false n v e = wrapped_unsigned n v
 image_is Symmetric s n v e = symmetric s n v
 
--- ---- what is reached from parts whose magnitude is so many ulps of the source
+-- ---- the bits reached from parts whose magnitude is `ulps` ulps of the source
 abbrev is_read : ReadMode → Radix → Parts → ℕ → ℕ → Bool
 is_read mode r p f ulps = is_numeral r p && is_rounded mode (is_minus p.sign) ((magnitude r p).num * 2 ^ f) (magnitude r p).den ulps
 
@@ -295,7 +296,7 @@ asks r s t word p m numeral e policy =
       policy = policy;
     }
 
--- a line, and the answer of what its numeral reaches
+-- the answer to a line whose numeral reaches known bits
 pub answered : (mode : ReadMode) (r : Radix) (policy : Policy) (s t : FormatParts) (word : List ℕ) (p : Parts) (ulps : ℕ) → IsPolicyWord word policy mode → is_line r s t word (text_of p) ≡ true → is_reached mode r policy s t p ulps ≡ true
     → IsAnswer (spaced (words r s t word) (text_of p)) (respelled_answer (shortest_text (bits policy s t (signed p.sign ulps)) t.frac) (bits policy s t (signed p.sign ulps)) (overflowed policy s t (signed p.sign ulps)))
 answered mode r policy s t word p ulps named line e =
@@ -317,6 +318,6 @@ answered mode r policy s t word p ulps named line e =
 abbrev pub plain : Option ℕ → List ℕ → Option (List ℕ) → Parts
 plain sign whole fraction = record { sign = sign; whole = whole; fraction = fraction; exponent = None }
 
--- with 'p' and one digit
+-- a numeral with 'p' and one exponent digit
 abbrev pub by_two : List ℕ → List ℕ → ℕ → Parts
 by_two whole fraction digit = record { sign = None; whole = whole; fraction = Some fraction; exponent = Some (record { separator = 112; sign = None; digits = digit ∷ [] }) }

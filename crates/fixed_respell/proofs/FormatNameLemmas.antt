@@ -1,4 +1,4 @@
--- The names of formats: how counts are read, what follows the letters, and that a word names one format.
+-- The names of formats: how counts are read, what follows the letters, and that a word names at most one format.
 use Rattle.std.proofs.Common.{◌≡◌, ℕ, ◌+◌, ◌-◌, ◌<◌, ◌≤◌, ◌⊎◌, ◌↔◌, Bool, true, false, IsTrue, List, [], ◌∷◌, ◌++◌, length, length-append, Option, Some, None, IsSome, IfSome, MatchOption, refl, sym, ap, ◌∙◌, subst, arith, inl, inr, ⊎_elim, append_assoc}
 use Rattle.std.specs.Fmt.{decimal, signed_decimal}
 use Rattle.std.specs.Str.Parse.{AllDigits}
@@ -16,7 +16,7 @@ use Rattle.fixed_respell.specs.Words.{counts_text, format_text, fraction_letter,
 use Rattle.fixed_respell.specs.Lemmas.FormatLemmas.{IsNoDigit, counts_beyond, counts_within, decimal_without, no_digit_is}
 use Rattle.fixed_respell.specs.Lemmas.SplitLemmas.{IsSameSplit, split_has_one, split_is_one}
 
--- ---- two counts around a byte that is no digit
+-- ---- two counts around a byte that is not a digit
 abbrev IsSameCounts : ℕ → ℕ → List ℕ → List ℕ → List ℕ → List ℕ → Type 0
 IsSameCounts m n xs ys r s = (xs ≡ ys) × (m ≡ n) × (r ≡ s)
 
@@ -55,14 +55,14 @@ no_minus : (capital m : ℕ) → 57 < capital → IsLetter capital m → m ≡ m
 no_minus capital m high (inl e) is = omega (arith, high, e, is)
 no_minus capital m high (inr e) is = omega (arith, high, e, is)
 
--- ---- a format of two counts
+-- ---- a format from two counts
 abbrev parts : Bool → ℕ → ℕ → FormatParts
 parts s w r = record { signed = s; width = w; frac = r }
 
 parts_are : (f : FormatParts) (s : Bool) (w r : ℕ) → f.signed ≡ s → f.width ≡ w → f.frac ≡ r → f ≡ parts s w r
 parts_are f s w r a b c = λ i. parts (a i) (b i) (c i)
 
--- what is found of the only format that it can be
+-- a search that can find only one format
 found_by : (P : FormatParts → Type 0) (s : Bool) (w r : ℕ) (o : Option FormatParts) → (IsSome o ↔ IsFormat w r) → IfSome o (λ f. (f.signed ≡ s) × (f.width ≡ w) × (f.frac ≡ r)) → (IsFormat w r → P (parts s w r)) → ((f : FormatParts) → P f → IsFormat f.width f.frac × (f ≡ parts s w r))
     → MatchOption o ((f : FormatParts) → ¬ P f) (λ f. P f)
 found_by P s w r None exists are to back = λ f is.
@@ -91,7 +91,7 @@ pub within_found : (s : Bool) (w r mark : ℕ) (rest : List ℕ) (o : Option For
 within_found s w r mark rest o few few' letter is exists are =
     found_by (IsCountedWithin s rest) s (w + r) r o exists are (within_to s w r mark rest letter is) (within_back s w r mark rest few few' letter is)
 
--- the counts after a minus: how many bits the fraction is longer than the width
+-- the counts after a minus: the fraction length less the width, and the fraction length
 beyond_counts : (s : Bool) (missing r mark : ℕ) (rest : List ℕ) → missing < 100 → r < 100 → IsLetter fraction_letter mark → rest ≡ two_counts mark missing r → (f : FormatParts) → IsCountedBeyond s rest f → (missing ≡ f.frac - f.width) × (r ≡ f.frac)
 beyond_counts s missing r mark rest few few' letter is f c =
     let within = c.is.format.within in
@@ -127,7 +127,7 @@ pointed_counts s w r rest few few' is f c =
     let same = counts_one point point w r (f.width - f.frac) f.frac other_point other_point few few' (omega (arith, most)) (omega (arith, most, within)) (sym is ∙ (c.text ∙ counts_within point f within)) in
     (sym same.0, sym same.2)
 
--- without whole bits there is no sign bit
+-- a signed pointed name with a whole count of 0 has no room for its sign bit
 pub no_sign_bit : (s : Bool) (w r : ℕ) (rest : List ℕ) → s ≡ true → w ≡ 0 → w < 100 → r < 100 → rest ≡ two_counts point w r → (f : FormatParts) → IsPointed s rest f → ⊥
 no_sign_bit s w r rest sign none few few' is f c =
     let same = pointed_counts s w r rest few few' is f c in
@@ -163,12 +163,12 @@ fraction_found r rest o few is exists are = found_by (IsFraction rest) true (r +
         (c.is.format, parts_are f true (r + 1) r c.is.signed_is (omega (arith, c.sign_bit, same)) same)
 
 -- ---- what follows the letters
--- what is found of a part of a name is found of the name
+-- a search in a part of a name, restated for the name
 carried : (P Q : FormatParts → Type 0) (o : Option FormatParts) → ((f : FormatParts) → P f → Q f) → ((f : FormatParts) → Q f → P f) → MatchOption o ((f : FormatParts) → ¬ P f) (λ f. P f) → MatchOption o ((f : FormatParts) → ¬ Q f) (λ f. Q f)
 carried P Q None to back none = λ f is. none f (back f is)
 carried P Q (Some f) to back is = to f is
 
--- two counts begin with a digit
+-- digits before other bytes start with a digit
 digit_first : (ds r : List ℕ) (m b : ℕ) (rest : List ℕ) → 0 < length ds → AllDigits 10 ds → ds ++ m ∷ r ≡ b ∷ rest → IsNoDigit b → ⊥
 digit_first [] r m b rest some digits e other = omega (arith, some)
 digit_first (d ∷ ds) r m b rest some digits e other = let h : b ≡ d = cc in let is = digit_from_value d digits.0 in no_digit_is b d other is.0 is.1 h
@@ -178,7 +178,7 @@ counts_begin w m r b rest few e other =
     let is = decimal_is_IsNumeral w (omega (arith, few)) in
     digit_first (decimal w) r m b rest is.0.0 is.0.1 e other
 
--- counts of whole bits of zero or more, and those after a minus
+-- the name has a minus, and the counts follow it
 abbrev IsAfterMinus : Bool → List ℕ → FormatParts → Type 0
 IsAfterMinus s rest f = (counts : List ℕ) × (rest ≡ minus ∷ counts) × IsCountedBeyond s counts f
 
@@ -200,7 +200,7 @@ other_minus = inl (omega arith)
 within_begin : (s : Bool) (rest counts : List ℕ) (f : FormatParts) → rest ≡ minus ∷ counts → IsCountedWithin s rest f → ⊥
 within_begin s rest counts f is c = counts_begin (f.width - f.frac) c.mark (decimal f.frac) minus counts (omega (arith, c.is.format.is_width.most)) (sym c.text ∙ is) other_minus
 
--- what follows I or U begins with a digit or a minus
+-- the text after I or U begins with a digit or a minus
 counted_begin : (s : Bool) (rest : List ℕ) (f : FormatParts) (b : ℕ) (more : List ℕ) → IsCounted s rest f → rest ≡ b ∷ more → IsNoDigit b → b ≡ minus
 counted_begin s rest f b more c is other = by_case (counted_cases s rest f c)
   where
@@ -245,7 +245,7 @@ counted_after_u rest o other found = carried (IsCounted false rest) (IsAfterU re
     back f (inl c) = c
     back f (inr p) = absurd (other p.q p.counts p.is_q p.head)
 
--- a letter has one capital
+-- a byte is not two different letters
 apart : (a b c : ℕ) → a < b → b < a + 32 → IsLetter a c → IsLetter b c → ⊥
 apart a b c l m (inl e) (inl h) = omega (arith, e, h, l)
 apart a b c l m (inl e) (inr h) = omega (arith, e, h, l)
@@ -261,7 +261,7 @@ i_or_u c = apart 73 85 c (omega arith) (omega arith)
 q_or_u : (c : ℕ) → IsLetter q_letter c → IsLetter 85 c → ⊥
 q_or_u c = apart 81 85 c (omega arith) (omega arith)
 
--- the first letter of a name, and what is left after it
+-- the first letter of a name, and the text after it
 abbrev IsLetterAndRest : ℕ → List ℕ → FormatParts → Type 0
 IsLetterAndRest first rest f = (IsLetter 73 first × IsCounted true rest f) ⊎ (IsLetter q_letter first × IsAfterQ rest f) ⊎ (IsLetter 85 first × IsAfterU rest f)
 
@@ -358,7 +358,7 @@ join_name first rest f (inr (inr (letter, inr p))) = record {
   }));
 }
 
--- what is found of what is left after a letter is found of the name
+-- a search in the text after a letter, restated for the name
 name_found : (P : FormatParts → Type 0) (word : List ℕ) (first : ℕ) (rest : List ℕ) (o : Option FormatParts) → word ≡ first ∷ rest → ((f : FormatParts) → P f → IsLetterAndRest first rest f) → ((f : FormatParts) → IsLetterAndRest first rest f → P f) → MatchOption o ((f : FormatParts) → ¬ P f) (λ f. P f) → MatchOption o ((f : FormatParts) → ¬ IsFormatName word f) (λ f. IsFormatName word f)
 name_found P word first rest o is to back found =
     carried P (IsFormatName word) o (λ f p. subst (λ w. IsFormatName w f) (sym is) (join_name first rest f (to f p))) (λ f n. back f (split_name word first rest f is n.format n.named)) found
@@ -372,7 +372,7 @@ name_after_q word first rest o is letter found = name_found (IsAfterQ rest) word
 pub name_after_u : (word : List ℕ) (first : ℕ) (rest : List ℕ) (o : Option FormatParts) → word ≡ first ∷ rest → IsLetter 85 first → MatchOption o ((f : FormatParts) → ¬ IsAfterU rest f) (λ f. IsAfterU rest f) → MatchOption o ((f : FormatParts) → ¬ IsFormatName word f) (λ f. IsFormatName word f)
 name_after_u word first rest o is letter found = name_found (IsAfterU rest) word first rest o is (λ f c. inr (inr (letter, c))) (λ f. u_part first rest f letter) found
 
--- where the first byte after U is no Q
+-- the first byte after U is not a Q
 pub not_q_first : (rest : List ℕ) (first : ℕ) (counts : List ℕ) (is_q : Bool) → rest ≡ first ∷ counts → (IsTrue is_q ↔ IsLetter q_letter first) → is_q ≡ false → (q : ℕ) (more : List ℕ) → IsLetter q_letter q → rest ≡ q ∷ more → ⊥
 not_q_first rest first counts is_q is test none q more letter e =
     let both : first ∷ counts ≡ q ∷ more = sym is ∙ e in
@@ -380,7 +380,7 @@ not_q_first rest first counts is_q is test none q more letter e =
     let holds : IsTrue is_q = test.1 (subst (IsLetter q_letter) head letter) in
     absurd (cc)
 
--- ---- a word names one format
+-- ---- a word names at most one format
 within_same : (s : Bool) (rest : List ℕ) (f g : FormatParts) → IsCountedWithin s rest f → IsCountedWithin s rest g → f ≡ g
 within_same s rest f g a b =
     let most = b.is.format.is_width.most in

@@ -11,7 +11,7 @@ use Rattle.fixed_respell.specs.Words.{IsFormatWord, format_text, sign_letter}
 abbrev four : List ℕ → ℕ → ℕ
 four word i = get_or word i 0 + 256 * get_or word (i + 1) 0 + 65536 * get_or word (i + 2) 0 + 16777216 * get_or word (i + 3) 0
 
--- four bytes, and the last bytes after them
+-- the first four bytes and the last four bytes of a word give its number
 pub word_sum : (word : List ℕ) (low last : ℕ) → 4 ≤ length word → length word ≤ 6 → AllBelowBase 256 word → low ≡ four word 0 → last ≡ four word (length word - 4) → low + last / 2 ^ (8 * (8 - length word)) * 4294967296 % 18446744073709551616 ≡ number_l 256 word
 word_sum [] low last least most below e f = absurd (omega (arith, least))
 word_sum (a ∷ []) low last least most below e f = absurd (omega (arith, least))
@@ -22,12 +22,12 @@ word_sum (a ∷ b ∷ c ∷ d ∷ g ∷ []) low last least most below e f = omeg
 word_sum (a ∷ b ∷ c ∷ d ∷ g ∷ h ∷ []) low last least most below e f = omega (arith, e, f, below.0, below.1.0, below.1.1.0, below.1.1.1.0, below.1.1.1.1.0, below.1.1.1.1.1.0)
 word_sum (a ∷ b ∷ c ∷ d ∷ g ∷ h ∷ i ∷ rest) low last least most below e f = absurd (omega (arith, most))
 
--- a number of so many bytes
+-- n bytes spell a number below 256^n
 pub number_below : (xs : List ℕ) → AllBelowBase 256 xs → number_l 256 xs < 256 ^ length xs
 number_below [] below = omega arith
 number_below (x ∷ xs) below = omega (arith, number_below xs below.1, below.0, pow-succ' 256 (length xs))
 
--- bytes of one count and one number are the same
+-- bytes with the same count and number are equal
 pub same_bytes : (xs ys : List ℕ) → AllBelowBase 256 xs → AllBelowBase 256 ys → length xs ≡ length ys → number_l 256 xs ≡ number_l 256 ys → xs ≡ ys
 same_bytes [] [] p q l e = refl
 same_bytes [] (y ∷ ys) p q l e = absurd (omega (arith, l))
@@ -41,7 +41,7 @@ pub each_below : (xs : List ℕ) → ((k : ℕ) → get_or xs k 0 < 256) → All
 each_below [] t = tt
 each_below (x ∷ xs) t = (t 0, each_below xs (λ k. t (suc k)))
 
--- the rest of a word has at most five bytes
+-- at most five bytes spell a number below 2^40
 rest_below : (xs : List ℕ) → AllBelowBase 256 xs → length xs ≤ 5 → number_l 256 xs < 2 ^ 40
 rest_below xs below most =
     let p : 256 ^ length xs ≤ 256 ^ 5 = pow-le-pow_right {n = 256} (omega arith) most in
@@ -58,7 +58,7 @@ pub key_most : (word : List ℕ) → 4 ≤ length word → length word ≤ 6 →
 key_most [] least most below = absurd (omega (arith, least))
 key_most (x ∷ xs) least most below = omega (arith, most, rest_below xs below.1 (omega (arith, most)))
 
--- words of one key are the same after their first bytes
+-- words with the same key are equal after their first bytes
 key_one : (xs ys : List ℕ) → 4 ≤ length xs → length xs ≤ 6 → AllBelowBase 256 xs → 4 ≤ length ys → length ys ≤ 6 → AllBelowBase 256 ys → word_key xs ≡ word_key ys → drop 1 xs ≡ drop 1 ys
 key_one [] ys least most below least' most' below' e = absurd (omega (arith, least))
 key_one (x ∷ xs) [] least most below least' most' below' e = absurd (omega (arith, least'))

@@ -8,7 +8,7 @@ use lib.Lanes.{chunk, zip2, mask_l, top}
 use Rattle.fixed_respell.specs.Split.{count_of}
 use Rattle.fixed_respell.specs.Lemmas.SplitLemmas.{count_cons}
 
--- none of the first r bytes is w
+-- w does not occur among the first r bytes if each of them differs
 pub count_none : (w r : ℕ) (bytes : List ℕ) → ((k : ℕ) → k < r → eqb (get_or bytes k 0) w ≡ false) → count_of w (take r bytes) ≡ 0
 count_none w zero bytes none = refl
 count_none w (suc r) [] none = refl
@@ -17,7 +17,7 @@ count_none w (suc r) (b ∷ bytes) none =
     let first : cond (eqb b w) 1 0 + count_of w (take r bytes) ≡ 0 + count_of w (take r bytes) = ap (λ t. cond t 1 0 + count_of w (take r bytes)) (none 0 (omega arith)) in
     omega (arith, count_cons w b (take r bytes), first, rest)
 
--- the place of the first lane that holds w, or 16
+-- r is the index of the first lane that holds w, or 16
 pub record IsPlace (w r : ℕ) (bytes : List ℕ) : Type 0 where
   pub within : r ≤ 16
   pub none : count_of w (take r bytes) ≡ 0

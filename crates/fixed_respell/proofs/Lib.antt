@@ -1,6 +1,6 @@
--- What the proofs of the crates above may cite
+-- For the proofs of dependent crates:
 pub mod Public
--- What no other crate can name
+-- Private to this crate:
 mod NumberLemmas
 mod LaneLemmas
 mod MaskLemmas

@@ -14,7 +14,7 @@ use Rattle.fixed_respell.proofs.LaneLemmas.{count_none}
 abbrev pub is_space : ℕ → Bool
 is_space = λ x. x == space
 
--- a list by one of two equal numbers
+-- equal numbers give equal lists
 same_at : (f : ℕ → List ℕ) (m n : ℕ) → m ≡ n → f m ≡ f n
 same_at f m n e = ap f e
 
@@ -33,7 +33,7 @@ mask_append : (xs ys : List Bool) → mask_l (xs ++ ys) ≡ mask_l xs + 2 ^ leng
 mask_append [] ys = omega arith
 mask_append (x ∷ xs) ys = omega (arith, mask_append xs ys, pow-suc 2 (length xs), ap (λ n. n * mask_l ys) (pow-suc 2 (length xs)))
 
--- a mask with a bit has one before its end
+-- the first set bit of a mask is before the end of the list
 goes : (t : Bool) (m p n : ℕ) → 0 < cond t 1 0 + 2 * m → (0 < m → p < n) → cond (not t) (1 + p) 0 < suc n
 goes true m p n some later = omega arith
 goes false m p n some later = let h : p < n = later (omega (arith, some)) in omega (arith, h)
@@ -68,7 +68,7 @@ first_space line mask place rest has some is_place is_rest =
       };
     }
 
--- ---- two masks of sixteen bytes each, the second from a place on
+-- ---- two masks of sixteen bytes each, the second from an index on
 pub two_masks : (line : List ℕ) (at low high mask : ℕ) → at ≤ 16 → at + 16 ≤ length line → low ≡ mask_l (map is_space (take 16 line)) → high ≡ mask_l (map is_space (take 16 (drop at line))) → mask ≡ low + high / 2 ^ (16 - at) * 65536 → HasSpaces line mask
 two_masks line at low high mask most room is_low is_high is_mask =
     let first : List ℕ = take 16 line in
@@ -87,6 +87,6 @@ two_masks line at low high mask most room is_low is_high is_mask =
       mask_is = omega (arith, both, upper, is_low, is_mask);
     }
 
--- sixteen bits
+-- a mask of sixteen bytes has sixteen bits
 pub sixteen_bits : (bytes : List ℕ) (mask : ℕ) → 16 ≤ length bytes → mask ≡ mask_l (map is_space (take 16 bytes)) → mask < 65536
 sixteen_bits bytes mask room is = omega (arith, is, mask_l-lt (map is_space (take 16 bytes)), ap (λ k. 2 ^ k) (length-map (take 16 bytes) is_space ∙ length-take-le 16 bytes room))

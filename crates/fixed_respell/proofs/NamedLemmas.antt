@@ -1,4 +1,4 @@
--- Lines in which formats have any of their names.
+-- Lines that use any of the names of formats.
 use Rattle.std.proofs.Common.{◌≡◌, ℕ, List, subst, inl, inr}
 use Rattle.fixed_bits.specs.Formats.{FormatParts, IsFormat}
 use Rattle.fixed_respell.specs.Answer.{Asks, AsksBy, IsAnswer, IsNamedAnswer, IsTaskAnswered, Task}
@@ -16,7 +16,7 @@ name_valid word f is = is.format
 pub named_answer_one : NamedAnswerIsTheOne
 named_answer_one = answer_by IsFormatName name_one name_valid IsPolicyName policy_name_one
 
--- a line that asks by the words of the programs asks by names
+-- a line with the programs' own words is a line with names
 named_asks : (line : List ℕ) (t : Task) → Asks line t → AsksBy IsFormatName IsPolicyName line t
 named_asks line t asks = asks_by IsFormatWord IsFormatName IsPolicyWord IsPolicyName line t asks (word_names asks.source_word t.source asks.source) (word_names asks.target_word t.target asks.target) (word_is_name asks.policy_word t.policy t.mode asks.policy)
 

@@ -8,7 +8,7 @@ use Rattle.std.proofs.lemmas.Str.Parse.{IsNumeralModel, numerals_by_value, tells
 own : IsNumeralModel (AllDigits 10) (digits_value 10)
 own = numerals_by_value (AllDigits 10) tells_digits
 
--- what the decimal digits of a number are
+-- `word` has the properties of the decimal digits of n
 pub record IsPlain (word : List ℕ) (n : ℕ) : Type 0 where
   pub some : 0 < length word
   pub short : length word ≤ 10
@@ -33,13 +33,13 @@ plain word n small e =
       value = d.1;
     })
 
--- digits without a leading zero are those of their number
+-- digits without a leading zero are the decimal digits of their number
 pub plain_is : (word : List ℕ) → 0 < length word → length word ≤ 10 → (get_or word 0 0 ≡ 48 → length word ≡ 1) → AllDigits 10 word → word ≡ decimal (digits_value 10 word)
 plain_is word some short no_spare digits =
     let below : digits_value 10 word < 10 ^ 10 = digits_value_short own word 10 digits short in
     let fits : digits_value 10 word < 2 ^ 64 = omega arith in
     sym (decimal-digits_value own word digits some no_spare fits)
 
--- ten digits stay within a word of 64 bits as they are read
+-- up to ten digits stay within 64 bits while they are read
 pub room : (word : List ℕ) (i : ℕ) → length word ≤ 10 → i < length word → AllDigits 10 (take i word) → digits_value 10 (take i word) < 10 ^ 9
 room word i short at digits = digits_value_short own (take i word) 9 digits (omega (arith, length-take i word))

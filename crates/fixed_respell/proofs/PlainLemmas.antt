@@ -1,4 +1,4 @@
--- Where two ways to name a policy and a mode agree on a line's fourth word, the line has the same answers by both.
+-- A line has the same answers under two languages of policy and mode that agree on its fourth word.
 use Rattle.std.proofs.Common.{◌≡◌, ℕ, List, [], length, get_or, refl, inl, inr, ◌↔◌}
 use Rattle.fixed_bits.specs.Formats.{FormatParts}
 use Rattle.fixed_bits.specs.declared.format.Policy.{Policy}
@@ -13,7 +13,7 @@ use Rattle.fixed_respell.specs.declared.fault.LineFault.{LineFault}
 use Rattle.fixed_respell.specs.declared.fault.LineFault.TheVariants.{LineTooLong, MissingField, BadRadix, BadSource, BadTarget, BadPolicy}
 use Rattle.fixed_respell.specs.Lemmas.AnswerLemmas.{plain_word}
 
--- two ways to name a policy and a mode agree on the line's fourth word
+-- two languages of policy and mode agree on the line's fourth word
 abbrev Agree : (M N : List ℕ → Policy → ReadMode → Type 0) → List ℕ → Type 0
 Agree M N line = (words : List (List ℕ)) (rest : List ℕ) → HasWords line words rest → length words ≡ 4 → (p : Policy) (m : ReadMode) → M (get_or words 3 []) p m ↔ N (get_or words 3 []) p m
 
@@ -40,7 +40,7 @@ first_too M N line agree f is = record {
   first = λ other before has. is.first other before (fault_too N M line (flipped M N line agree) other has);
 }
 
--- what a line asks for, where its words are named in another way
+-- the line requests the same under other names for its words
 pub asks_by : (F G : List ℕ → FormatParts → Type 0) (M N : List ℕ → Policy → ReadMode → Type 0) (line : List ℕ) (t : Task) (asks : AsksBy F M line t) → G asks.source_word t.source → G asks.target_word t.target → N asks.policy_word t.policy t.mode → AsksBy G N line t
 asks_by F G M N line t asks source target policy = record {
   short = asks.short;
@@ -59,7 +59,7 @@ answer_too : (M N : List ℕ → Policy → ReadMode → Type 0) (line : List �
 answer_too M N line reply agree (inl a) = inl (record { fault = a.fault; first = first_too M N line agree a.fault a.first; answer_is = a.answer_is })
 answer_too M N line reply agree (inr a) = inr (record { task = a.task; asks = asks_by IsFormatWord IsFormatWord M N line a.task a.asks a.asks.source a.asks.target ((agree _ a.task.numeral a.asks.words refl a.task.policy a.task.mode).0 a.asks.policy); answered = a.answered })
 
--- without a slash the two languages agree
+-- the two languages agree on a line without a slash
 plain_words : (line : List ℕ) → IsPlainLine line → Agree IsPolicyWord IsPlainWord line
 plain_words line plain words rest has count p m = plain_word (get_or words 3 []) p m (plain words rest has count)
 

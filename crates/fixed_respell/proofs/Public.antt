@@ -1,4 +1,4 @@
--- What the proofs of the crates above may cite.
+-- Lemmas for the proofs of dependent crates.
 use Rattle.std.proofs.Common.{◌≡◌, ◌≤◌, ◌++◌, true, List, ℕ, length, length-append, arith}
 use Rattle.std.specs.Prelude.{codes}
 use Rattle.line_engine.specs.AnswerText.{AnswerText}
@@ -20,14 +20,14 @@ fault_appended A line before after message short answer appended = record {
   short = omega (arith, short, length-append (codes "error: ") message);
 }
 
--- the word of a format is a name of it, and a name is that of one format
+-- the word of a format is a name of it, and a name names one format
 pub text_names : (f : FormatParts) → IsFormat f.width f.frac → IsFormatName (format_text f) f
 text_names = FormatNameLemmas.text_names
 
 pub name_one : FormatNameIsTheOne
 name_one = FormatNameLemmas.name_one
 
--- a line has one answer where formats have any of their names, and that which it has by their words
+-- a line has one answer by any of the formats' names; it is the answer by their own words, if the line uses them
 pub named_answer_one : NamedAnswerIsTheOne
 named_answer_one = NamedLemmas.named_answer_one
 

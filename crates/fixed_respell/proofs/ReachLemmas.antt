@@ -17,7 +17,7 @@ use Rattle.fixed_read.specs.Reading.{IsReadNumber, IsReading, number_in}
 use Rattle.fixed_read.specs.declared.read_number.ReadNumber.{ReadNumber}
 use Rattle.fixed_respell.specs.Reached.{IsReached, IsOverflowed, IsRespelled, IsRefusal}
 
--- what is said of a reading's number is said of the numeral's read number
+-- the bytes are a numeral, and `found` holds the number that it reads as
 pub record IsRead (mode : ReadMode) (r : Radix) (bytes : List ℕ) (source : FormatParts) (found : ReadNumber) : Type 0 where
   pub parts : Parts
   pub numeral : HasNumeral r bytes parts
@@ -36,7 +36,7 @@ read_of mode r bytes source found (p, numeral) reading format = record {
   format = format;
 }
 
--- nothing is reached
+-- the numeral overflows under Checked
 none : (mode : ReadMode) (r : Radix) (bytes : List ℕ) (policy : Policy) (source target : FormatParts) (found : ReadNumber) (kind : ParseErrorKind) (is : IsRead mode r bytes source found) → kind ≡ Overflow → policy ≡ Checked
     → IsOutOfRange source.signed source.width is.number ⊎ IsOutOfRange target.signed target.width (down is.number source.frac target.frac) → IsRefusal mode r bytes policy source target kind
 none mode r bytes policy source target found kind is overflow checked out =
@@ -50,7 +50,7 @@ none mode r bytes policy source target found kind is overflow checked out =
     } in
     inr (overflow, record { parts = is.parts; numeral = is.numeral; overflowed = overflowed })
 
--- a number on the way is out of its format
+-- a number on the way is out of its format's range
 pub refused : (mode : ReadMode) (r : Radix) (bytes : List ℕ) (policy : Policy) (source target : FormatParts) (found : ReadNumber) (b : ℤ) (o u : Bool) (kind : ParseErrorKind) (is : IsRead mode r bytes source found) → kind ≡ Overflow
     → (¬ IsRefused policy o → IsImage policy source.signed source.width is.number b) → (IsTrue o ↔ IsOutOfRangeBy policy source.signed source.width is.number)
     → (IsTrue u ↔ IsOutOfRangeBy policy target.signed target.width (down b source.frac target.frac)) → (policy ≡ Checked) × (IsTrue o ⊎ IsTrue u) → IsRefusal mode r bytes policy source target kind
@@ -61,7 +61,7 @@ refused mode r bytes policy source target found b false u kind is overflow image
     let past = (refused_out policy target.signed target.width (down b source.frac target.frac) why.0).0 (out.0 (⊎_elim (λ (t : IsTrue false). absurd (cc)) (λ (t : IsTrue u). t) why.1)) in
     none mode r bytes policy source target found kind is overflow why.0 (inr (subst (λ c. IsOutOfRange target.signed target.width (down c source.frac target.frac)) exact.same past))
 
--- what is reached
+-- the bits that are reached
 either_out : (e o u A B : Type 0) → e ↔ (o ⊎ u) → o ↔ A → u ↔ B → e ↔ (A ⊎ B)
 either_out e o u A B w a b = (
   (λ t. ⊎_elim (λ x. inl (a.0 x)) (λ x. inr (b.0 x)) (w.0 t)),

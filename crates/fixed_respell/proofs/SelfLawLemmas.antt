@@ -21,7 +21,7 @@ summary_one n a b faults others x y =
     let same = tally_one n x.tally y.tally x.is_tally y.is_tally in
     (x.text_is ∙ ap (summary_text n) same ∙ sym y.text_is, x.faults_are ∙ ap (λ t. t.faults) same ∙ sym y.faults_are)
 
--- two summaries that were written are one
+-- two written summaries of the same lines are equal
 abbrev Written : ℕ → ℕ → List ℕ → List ℕ → ℕ → ℕ → Type 0
 Written n faults before after f f' = WritesSummary n faults (Some before) (Some after) f f'
 

@@ -1,4 +1,4 @@
--- Numbers in a base, lines of the program's own, and their tally.
+-- Numbers in a base, the lines of the self test, and their tally.
 use Rattle.std.proofs.Common.{◌≡◌, ℕ, zero, suc, ◌+◌, ◌-◌, ◌/◌, ◌%◌, ◌^◌, ◌<◌, ◌≤◌, ◌==◌, cond, Bool, true, false, List, [], ◌∷◌, ◌++◌, map, length, refl, sym, ap, ◌∙◌, subst, arith, length-append}
 use Rattle.std.proofs.Math.Nat.{div-eq_of_lt, mod-eq_of_lt, div-eq-sub-div, pow-le-pow_left}
 use Rattle.std.specs.Int.Digits.{digits_of}
@@ -27,13 +27,13 @@ digits_digit b n least p l =
     let same : n % b ≡ n = mod-eq_of_lt l in
     digits_of_step b n least p ∙ rw (none, same) refl
 
--- one digit
+-- a number below the base has one digit
 pub number_digit : (b n : ℕ) → 2 ≤ b → n < b → number_text b n ≡ digit_letter n ∷ []
 unfolding number_text
 number_digit b zero least l = refl
 number_digit b (suc n) least l = number_some b (suc n) (omega arith) ∙ ap (map digit_letter) (digits_digit b (suc n) least (omega arith) l)
 
--- one digit more
+-- another number has one digit more than its quotient
 pub number_more : (b n : ℕ) → 2 ≤ b → b ≤ n → number_text b n ≡ number_text b (n / b) ++ digit_letter (n % b) ∷ []
 number_more b n least l =
     let step : n / b ≡ (n - b) / b + 1 = div-eq-sub-div (omega arith) l in
@@ -49,7 +49,7 @@ digit_length b n least l = ap length (number_digit b n least l)
 pub more_length : (b n : ℕ) → 2 ≤ b → b ≤ n → length (number_text b n) ≡ length (number_text b (n / b)) + 1
 more_length b n least l = ap length (number_more b n least l) ∙ length-append (number_text b (n / b)) (digit_letter (n % b) ∷ [])
 
--- how long a number is at most
+-- a number below b^k has at most k digits
 pub number_short : (b k n : ℕ) → 2 ≤ b → 0 < k → n < b ^ k → length (number_text b n) ≤ k
 number_short b k zero least some l = omega (arith, ap length (number_digit b 0 least (omega arith)))
 number_short b k (suc n) least some l =
@@ -93,7 +93,7 @@ tally fit overflowed faults bytes = record { fit = fit; overflowed = overflowed;
 same_tally : (a b c d a' b' c' d' : ℕ) → a ≡ a' → b ≡ b' → c ≡ c' → d ≡ d' → tally a b c d ≡ tally a' b' c' d'
 same_tally a b c d a' b' c' d' p q r s = rw (p, q, r, s) refl
 
--- one reply more
+-- the tally of one more reply
 pub tally_more : (replies : List AnswerText) (reply : AnswerText) (now : Tally) (a b c d : ℕ) → now ≡ tally_of replies
     → a ≡ now.fit + from_bool (ends_in (codes "fits") reply)
     → b ≡ now.overflowed + from_bool (ends_in (codes "overflowed") reply)
@@ -108,7 +108,7 @@ tally_more replies reply now a b c d is p q r s =
     (r ∙ ap (λ (t : Tally). t.faults + from_bool reply.fault) is ∙ sym (count_more is_fault replies reply))
     (s ∙ ap (λ (t : Tally). t.bytes + (length reply.text + 1)) is ∙ sym (bytes_more replies reply))
 
--- answers so far, and one more
+-- the tally of no replies
 pub tally_none : IsTally 0 (tally_of [])
 unfolding self_lines
 tally_none = record { replies = []; answers = tt; tally_is = refl }

@@ -85,7 +85,7 @@ entry_of w f is = read_entry w f (counts_word w f) (by_width is.is_width)
     by_width (inr (inr (inl e))) = subst (λ n. has_entry n f (counts_word n f) ≡ true) (sym e) (up_to (λ i. has_entry 32 i (counts_word 32 i)) 32 f (rw e at is.within) entries_32)
     by_width (inr (inr (inr e))) = subst (λ n. has_entry n f (counts_word n f) ≡ true) (sym e) (up_to (λ i. has_entry 64 i (counts_word 64 i)) 64 f (rw e at is.within) entries_64)
 
--- ---- each entry is that of a word
+-- ---- each entry belongs to a word
 abbrev pub is_type : ℕ → ℕ → Bool
 is_type w f = (eqb w 8 || (eqb w 16 || (eqb w 32 || eqb w 64))) && leb f w
 

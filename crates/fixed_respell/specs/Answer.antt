@@ -20,8 +20,8 @@ use Rattle.fixed_respell.specs.declared.fault.LineFault.TheVariants.{LineTooLong
 use Rattle.fixed_respell.specs.declared.fault.LineFault.TheVariants.{BadTarget, BadPolicy}
 
 -- ---- the faults of a line
--- Which format a word names, and which policy and which mode a fourth word names, are parameters of what follows. In
--- the programs of lines they are `IsFormatWord` and `IsPolicyWord`, and without mode words `IsPlainWord`; with formats
+-- The definitions below take as parameters which format a word names, and which policy and mode a fourth word names. In
+-- the programs of lines these are `IsFormatWord` and `IsPolicyWord`, or `IsPlainWord` without mode words; with formats
 -- of any width and all modes they are `IsFormatName` and `IsPolicyName`.
 
 -- a word names a radix
@@ -49,7 +49,7 @@ HasFaultBy Names NamesPolicy BadSource line = HasBadWord 4 1 (NamesFormatBy Name
 HasFaultBy Names NamesPolicy BadTarget line = HasBadWord 4 2 (NamesFormatBy Names) line
 HasFaultBy Names NamesPolicy BadPolicy line = HasBadWord 4 3 (NamesSome NamesPolicy) line
 
--- the rank of a fault in the order in which they are looked for
+-- the rank of a fault in the order of the checks
 abbrev pub fault_rank : LineFault → ℕ
 fault_rank LineTooLong = 0
 fault_rank MissingField = 1
@@ -73,9 +73,9 @@ fault_message BadSource = codes "bad source format"
 fault_message BadTarget = codes "bad target format"
 fault_message BadPolicy = codes "bad policy"
 
--- ---- what a line asks for
--- a numeral in a radix, the format that it is read into and the one that it is moved to, what is done with a number
--- that is out of range, and how the numeral is rounded
+-- ---- the task of a line
+-- a numeral in a radix, the source format that it is read into, the target format that it is moved to, the policy for
+-- a number out of range, and the rounding mode
 pub record Task : Type 0 where
   pub radix : Radix
   pub source : FormatParts
@@ -101,8 +101,8 @@ pub record AsksBy (Names : List ℕ → FormatParts → Type 0) (NamesPolicy : L
   pub target : Names target_word t.target
   pub policy : NamesPolicy policy_word t.policy t.mode
 
--- ---- what a task is answered
--- the kind for which its numeral is refused
+-- ---- the answer to a task
+-- the message of the kind for which the task's numeral is refused
 pub record IsRefusalAnswer (t : Task) (answer : AnswerText) : Type 0 where
   pub kind : ParseErrorKind
   pub refusal : IsRefusal t.mode t.radix t.numeral t.policy t.source t.target kind
@@ -113,7 +113,7 @@ abbrev pub verdict : Bool → List ℕ
 verdict true = codes "overflowed"
 verdict false = codes "fits"
 
--- the answer of a text, the bits in decimal, and whether a number was out of its format
+-- the answer with a text, the bits in decimal, and whether a number was out of range of its format
 abbrev pub respelled_answer : List ℕ → ℤ → Bool → AnswerText
 respelled_answer text bits overflowed = record {
   text = text ++ space
@@ -121,7 +121,7 @@ respelled_answer text bits overflowed = record {
   fault = false;
 }
 
--- the bits that are reached from its numeral, and their shortest decimal
+-- the bits that are reached from the task's numeral, after their shortest decimal
 pub record IsRespelledAnswer (t : Task) (answer : AnswerText) : Type 0 where
   pub bits : ℤ
   pub overflowed : Bool
@@ -130,7 +130,7 @@ pub record IsRespelledAnswer (t : Task) (answer : AnswerText) : Type 0 where
   pub shortest : IsShortestText bits t.target.frac text
   pub answer_is : answer ≡ respelled_answer text bits overflowed
 
--- one of the two
+-- the answer to a task is one of the two
 abbrev pub IsTaskAnswered : Task → AnswerText → Type 0
 IsTaskAnswered t answer = IsRefusalAnswer t answer ⊎ IsRespelledAnswer t answer
 
@@ -160,10 +160,10 @@ Asks = AsksBy IsFormatWord IsPolicyWord
 abbrev pub IsAnswer : List ℕ → AnswerText → Type 0
 IsAnswer = IsAnswerIn (respell_language IsFormatWord IsPolicyWord)
 
--- and as if there were none
+-- the answer to the line, as if there were no mode words
 abbrev pub IsPlainAnswer : List ℕ → AnswerText → Type 0
 IsPlainAnswer = IsAnswerIn (respell_language IsFormatWord IsPlainWord)
 
--- and where a format is of any width and has any of its names, and a mode is any
+-- the answer to the line, with formats of any width by any of their names, and all modes
 abbrev pub IsNamedAnswer : List ℕ → AnswerText → Type 0
 IsNamedAnswer = IsAnswerIn (respell_language IsFormatName IsPolicyName)

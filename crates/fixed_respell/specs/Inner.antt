@@ -1,4 +1,4 @@
--- Definitions that contracts of private functions cite, and no public clause.
+-- Definitions for contracts of private functions. No public contract cites them.
 pub mod Spaces
 pub mod FormatKeys
 pub mod NameParts

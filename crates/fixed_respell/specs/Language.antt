@@ -1,4 +1,4 @@
--- Languages of lines: a line is answered with its first fault, or with the answer to what it asks for.
+-- Languages of lines: a line is answered with its first fault, or with the answer to its task.
 use Rattle.std.specs.Prelude.{◌≡◌, ◌⊎◌, ℕ, List, ◌++◌, true, codes}
 use Rattle.fixed_respell.specs.LineWords.{IsFirst}
 use Rattle.line_engine.specs.AnswerText.{AnswerText}
@@ -24,7 +24,7 @@ pub record IsFaultAnswer (L : Language) (line : List ℕ) (answer : AnswerText) 
   pub first : IsFirst L.Fault L.rank (λ f. L.HasFault f line) fault
   pub answer_is : answer ≡ fault_answer (L.message fault)
 
--- the line asks for a task, and this is the task's answer
+-- the line asks for a task, and `answer` is the task's answer
 pub record IsTaskAnswer (L : Language) (line : List ℕ) (answer : AnswerText) : Type 0 where
   pub task : L.Task
   pub asks : L.Asks line task

@@ -1,4 +1,4 @@
--- Laws of what is reached from a numeral.
+-- Laws of the bits that are reached from a numeral.
 use Rattle.std.specs.Prelude.{◌≡◌, List, ℕ, ℤ, Bool}
 use Rattle.fixed_bits.specs.Formats.{FormatParts, IsFormat}
 use Rattle.fixed_bits.specs.declared.format.Policy.{Policy}
@@ -8,13 +8,13 @@ use Rattle.fixed_numeral.specs.declared.error.ParseErrorKind.{ParseErrorKind}
 use Rattle.fixed_numeral.specs.declared.radix.Radix.{Radix}
 use Rattle.fixed_respell.specs.Reached.{IsReached, IsOverflowed, IsRespelled, IsRefusal}
 
--- from a numeral at most one pair of bits and a flag is reached
+-- at most one pair of bits and a flag is reached from a numeral
 abbrev pub ReachedIsTheOne : Type 0
 ReachedIsTheOne = (mode : ReadMode) (r : Radix) (p : Parts) (policy : Policy) (source target : FormatParts) (b c : ℤ)
     (o u : Bool) → IsFormat source.width source.frac → IsFormat target.width target.frac
     → IsReached mode r p policy source target b o → IsReached mode r p policy source target c u → (b ≡ c) × (o ≡ u)
 
--- where nothing is reached there are no bits that are
+-- a numeral that overflows reaches no bits
 abbrev pub OverflowedHasNone : Type 0
 OverflowedHasNone = (mode : ReadMode) (r : Radix) (p : Parts) (policy : Policy) (source target : FormatParts) (b : ℤ)
     (o : Bool) → IsOverflowed mode r p policy source target → ¬ IsReached mode r p policy source target b o
@@ -32,7 +32,7 @@ RefusalHasNone = (mode : ReadMode) (r : Radix) (bytes : List ℕ) (policy : Poli
     (kind : ParseErrorKind) (b : ℤ) (o : Bool) → IsRefusal mode r bytes policy source target kind
     → ¬ IsRespelled mode r bytes policy source target b o
 
--- bytes are refused for one kind at most
+-- bytes are refused for at most one kind
 abbrev pub RefusalIsTheOne : Type 0
 RefusalIsTheOne = (mode : ReadMode) (r : Radix) (bytes : List ℕ) (policy : Policy) (source target : FormatParts)
     (k l : ParseErrorKind) → IsRefusal mode r bytes policy source target k

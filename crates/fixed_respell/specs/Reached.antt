@@ -1,4 +1,4 @@
--- What is reached from a numeral through two formats.
+-- The bits that are reached from a numeral through two formats.
 use Rattle.std.specs.Prelude.{◌≡◌, ◌⊎◌, ◌↔◌, List, ℕ, ℤ, pos, Bool, true, false, IsTrue}
 use Rattle.fixed_bits.specs.Formats.{FormatParts}
 use Rattle.fixed_bits.specs.Ranges.{IsOutOfRange}
@@ -16,9 +16,9 @@ use Rattle.fixed_read.specs.Reading.{IsReadNumber}
 use Rattle.fixed_respell.specs.declared.respelling.Bits.{Bits}
 use Rattle.fixed_respell.specs.declared.respelling.Bits.TheVariants.{Signed, Unsigned}
 
--- `number` is the read number of a numeral with these parts, `in_source` its image in the source, `moved` that rounded
--- down (floor) to the target's fraction length, and `bits` the image of this in the target; the flag says whether one
--- of the two numbers was out of the range that the policy leaves
+-- `number` is the read number of a numeral with these parts, `in_source` its image in the source, `moved` that image
+-- rounded down (floor) to the target's fraction length, and `bits` the image of `moved` in the target; the flag says
+-- whether `number` or `moved` was out of the policy's range
 pub record IsReached (mode : ReadMode) (r : Radix) (p : Parts) (policy : Policy) (source target : FormatParts)
     (bits : ℤ) (overflowed : Bool) : Type 0 where
   pub number : ℤ
@@ -31,8 +31,8 @@ pub record IsReached (mode : ReadMode) (r : Radix) (p : Parts) (policy : Policy)
   pub flag : IsTrue overflowed ↔ (IsOutOfRangeBy policy source.signed source.width number
       ⊎ IsOutOfRangeBy policy target.signed target.width moved)
 
--- under Checked the read number is out of the source's range, or rounded down to the target's fraction length it is out
--- of the target's, and so it has no image there and nothing is reached
+-- under Checked, the read number is out of the source's range, or, rounded down to the target's fraction length, out of
+-- the target's range, so it has no image there and nothing is reached
 pub record IsOverflowed (mode : ReadMode) (r : Radix) (p : Parts) (policy : Policy)
     (source target : FormatParts) : Type 0 where
   pub number : ℤ
@@ -56,12 +56,12 @@ pub record OverflowsOn (mode : ReadMode) (r : Radix) (bytes : List ℕ) (policy 
   pub numeral : HasNumeral r bytes parts
   pub overflowed : IsOverflowed mode r parts policy source target
 
--- kind says why no bits are reached: bytes are no numeral, or nothing is reached from it
+-- kind says why no bits are reached: bytes are not a numeral, or nothing is reached from it
 abbrev pub IsRefusal : ReadMode → Radix → List ℕ → Policy → FormatParts → FormatParts → ParseErrorKind → Type 0
 IsRefusal mode r bytes policy source target kind = HasCause r bytes kind
     ⊎ ((kind ≡ Overflow) × OverflowsOn mode r bytes policy source target)
 
--- the number of some bits
+-- the number that the bits hold
 abbrev pub number_of : Bits → ℤ
 number_of (Signed n) = n
 number_of (Unsigned n) = pos n

@@ -14,7 +14,7 @@ use Rattle.line_engine.specs.declared.status.Status.{Status}
 use Rattle.line_engine.specs.declared.status.Status.TheVariants.{Done, Faults, Usage, ReadFault, WriteFault, NoMemory}
 use Rattle.line_engine.specs.declared.status.Status.TheVariants.{TooLong}
 
--- how a digit below 16 is written
+-- the byte of a digit below 16
 abbrev pub digit_letter : ℕ → ℕ
 digit_letter d = get_or (codes "0123456789abcdef") d 0
 
@@ -26,7 +26,7 @@ number_text base n = if n == 0 then digit_letter 0 ∷ [] else map digit_letter 
 abbrev pub radix_at : ℕ → ℕ
 radix_at i = get_or (2 ∷ 8 ∷ 10 ∷ 16 ∷ []) (i % 4) 0
 
--- the format at place k of the list, which starts over after its end
+-- the format at index k of the list, which starts over after its end
 abbrev pub format_at : ℕ → List ℕ
 format_at k = get_or (codes "U8F0" ∷ codes "I4F4" ∷ codes "U0F8" ∷ codes "I8F8" ∷ codes "U16F16" ∷ codes "I1F31"
     ∷ codes "U0F64" ∷ codes "I32F32" ∷ []) (k % 8) []
@@ -66,8 +66,8 @@ self_lines (suc n) = self_lines n ++ self_line n ∷ []
 abbrev pub ends_in : List ℕ → AnswerText → Bool
 ends_in word reply = ends_with (λ x y. x == y) reply.text word
 
--- of some replies: how many end in `fits`, how many in `overflowed`, how many are faults, and the bytes of all, with a
--- newline each
+-- of some replies, the number that end in `fits`, that end in `overflowed` and that are faults, and the bytes of all,
+-- with a newline each
 pub record Tally : Type 0 where
   pub fit : ℕ
   pub overflowed : ℕ
@@ -89,7 +89,7 @@ pub record IsWithin (n : ℕ) (tally : Tally) : Type 0 where
   pub faults : tally.faults ≤ n
   pub bytes : tally.bytes ≤ 193 * n
 
--- the replies are the answers to the first n lines, and this their tally
+-- the replies are the answers to the first n lines, and `tally` is their tally
 pub record IsTally (n : ℕ) (tally : Tally) : Type 0 where
   pub replies : List AnswerText
   pub answers : AreAnswers IsAnswer (self_lines n) replies
@@ -101,14 +101,14 @@ summary_text n tally = number_text 10 n ++ codes " lines, " ++ number_text 10 ta
     ++ number_text 10 tally.overflowed ++ codes " overflowed, " ++ number_text 10 tally.faults ++ codes " faults, "
     ++ number_text 10 tally.bytes ++ codes " bytes\n"
 
--- text is the summary of n lines, of whose answers `faults` are faults
+-- text is the summary of n lines, with `faults` faults among their answers
 pub record IsSummary (n : ℕ) (text : List ℕ) (faults : ℕ) : Type 0 where
   pub tally : Tally
   pub is_tally : IsTally n tally
   pub text_is : text ≡ summary_text n tally
   pub faults_are : faults ≡ tally.faults
 
--- the summary was written whole and nothing else, and no write failed
+-- the whole summary was written and nothing else, and no write failed
 pub record WritesSummary (n faults : ℕ) (written written' : Option (List ℕ)) (failed failed' : ℕ) : Type 0 where
   pub text : List ℕ
   pub summary : IsSummary n text faults
@@ -123,7 +123,7 @@ pub record BreaksSummary (n : ℕ) (written written' : Option (List ℕ)) (faile
   pub output : AppendsPrefix written written' text
   pub rose : HasFailed failed failed'
 
--- what a self test of n lines that ended with this status has written, and whether a write failed
+-- the output of a self test of n lines that ended with this status, and whether a write failed
 abbrev pub HasSelfRun : ℕ → Option (List ℕ) → Option (List ℕ) → ℕ → ℕ → Status → Type 0
 HasSelfRun n written written' failed failed' Done = WritesSummary n 0 written written' failed failed'
 HasSelfRun n written written' failed failed' Faults = (faults : ℕ) × (0 < faults)

@@ -1,8 +1,8 @@
--- Bytes split at the first byte of a kind.
+-- Bytes split at the first byte with a given value.
 use Rattle.std.specs.Prelude.{◌≡◌, ℕ, ◌==◌, List, ◌∷◌, ◌++◌}
 use Rattle.std.specs.List.{count_by}
 
--- how many of the bytes are b
+-- the number of bytes that are b
 abbrev pub count_of : ℕ → List ℕ → ℕ
 count_of b bytes = count_by (λ x. x == b) bytes
 

@@ -35,7 +35,7 @@ counts_text mark f = signed_decimal (whole_length f) ++ mark ∷ decimal f.frac
 abbrev pub format_text : FormatParts → List ℕ
 format_text f = sign_letter f.signed ∷ counts_text fraction_letter f
 
--- word is the word of the format f, of as many bits as an integer type
+-- word is the word of the format f, which has the width of an integer type
 pub record IsFormatWord (word : List ℕ) (f : FormatParts) : Type 0 where
   pub format : IsTypeFormat f.width f.frac
   pub text : word ≡ format_text f
@@ -90,16 +90,16 @@ IsModeWord word mode = (word ≡ mode_text mode) × IsTrue (is_line_mode mode)
 abbrev pub slash : ℕ
 slash = 47
 
--- word names the policy alone, in a line, and the mode is NearestEven: all that there would be without mode words
+-- word names only the policy, in a line, and the mode is NearestEven, as if there were no mode words
 abbrev pub IsPlainWord : List ℕ → Policy → ReadMode → Type 0
 IsPlainWord word policy mode = IsLinePolicy word policy × (mode ≡ NearestEven)
 
--- word names the policy, any of the four, and the mode, any of the nine; the mode is NearestEven where it names none
+-- word names one of the four policies and one of the nine modes; the mode is NearestEven if it names none
 abbrev pub IsPolicyName : List ℕ → Policy → ReadMode → Type 0
 IsPolicyName word policy mode = ((word ≡ policy_text policy) × (mode ≡ NearestEven))
     ⊎ (word ≡ policy_text policy ++ slash ∷ mode_text mode)
 
--- word does so in a line, which can name three of the policies and four of the modes
+-- word names them in a line, which can name three of the policies and four of the modes
 abbrev pub IsPolicyWord : List ℕ → Policy → ReadMode → Type 0
 IsPolicyWord word policy mode = IsPlainWord word policy mode
     ⊎ ((word ≡ policy_text policy ++ slash ∷ mode_text mode) × IsTrue (is_line_policy policy)

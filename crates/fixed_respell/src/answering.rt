@@ -34,8 +34,8 @@ use std::simd::prelude::*;
 use std::sync::ledger::Ledger;
 use text_buffer::TextBuffer;
 
-/// What a line asks for, or its first fault.
-// Always inlined, so that the task stays in registers: an answer of a call would go through memory.
+/// Reads the task of a line, or finds its first fault.
+// Always inlined, so that the task stays in registers: the result of a call would go through memory.
 #[inline(always)]
 fn read_task(line: &[u8]) -> Result<Task<'_>, LineFault>
     ensures task { MatchResult result (λ t. Asks line.now (task_of t.radix t.source t.target t.policy t.mode
@@ -81,8 +81,8 @@ pub fn push_fault<const N: usize>(out: &mut TextBuffer<N>, message: &str)
     out.push_bytes(message.as_bytes());
 }
 
-/// The last words of an answer, each after a space: a number was in its format, or out of it. Each is two numbers of
-/// eight bytes, the first byte in the lowest place, and each byte is what it is more than a space.
+/// The last words of an answer, each after a space: every number was in its format, or one was not. Each is two numbers
+/// of eight bytes, with the first byte lowest. Each byte is its character less a space.
 const VERDICTS: [u64; 4] = [
     0x0000_0053_5449_4600,
     0x0000_0000_0000_0000,
@@ -90,8 +90,9 @@ const VERDICTS: [u64; 4] = [
     0x0000_0000_0044_4557,
 ];
 
-/// The last word of an answer after a space, and the count of their bytes. It is found by its place, since a branch on
-/// it is mispredicted, among numbers, since a constant of arrays of bytes is written out anew for each line.
+/// Returns a space and the last word of an answer, and the count of their bytes. The word is found by its index, since
+/// a branch on it is mispredicted, and among numbers, since a constant of byte arrays is written out anew for each
+/// line.
 #[inline(always)]
 fn verdict_bytes(overflowed: bool) -> ([u8; 16], usize)
     ensures word { take result.1 result.0 ≡ space ∷ verdict overflowed }
@@ -113,7 +114,7 @@ pub fn push_verdict<const N: usize>(out: &mut TextBuffer<N>, overflowed: bool)
     out.push_prefix(bytes, count);
 }
 
-/// Appends the shortest decimal text of what is reached in ulps of 2^-`frac`, its number in decimal, and whether a
+/// Appends the shortest decimal text of a reached image in ulps of 2^-`frac`, its number in decimal, and whether a
 /// number on the way was out of its format.
 #[inline]
 pub fn push_respelled<const N: usize, L: Ledger>(
@@ -180,9 +181,9 @@ pub fn append_answer<const N: usize, L: Ledger>(
     }
 }
 
-/// The answer to a line of at most 1,048,576 bytes, `RADIX SOURCE TARGET POLICY NUMERAL`: the line's first fault, else
-/// the fault for which its numeral is refused, else the shortest decimal of the bits that it reaches, those bits in
-/// decimal, and whether a number on the way was out of its format.
+/// Answers a line of at most 1,048,576 bytes, `RADIX SOURCE TARGET POLICY NUMERAL`: with the line's first fault, else
+/// the fault of its numeral, else the shortest decimal of the bits that it reaches, those bits in decimal, and whether
+/// a number on the way was out of its format.
 pub fn answer<L: Ledger>(line: &[u8], steps: &mut Steps<L>) -> Answer
     ensures answer { IsAnswer line.now result }
     ensures cost { steps.new ≤ steps.old + 8 * length line.now + 624 }

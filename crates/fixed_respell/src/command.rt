@@ -1,4 +1,4 @@
-//! What the arguments of the program ask for.
+//! The commands that the program's arguments request.
 
 ghost use Rattle.std.specs.Prelude.{◌≡◌, ◌≤◌, ◌<◌, ◌^◌, ℕ, length, MatchOption, IfSome, decimal};
 ghost use Rattle.fixed_respell.specs.Command.{IsCommand, IsNumbered, IsUsageFault};
@@ -7,7 +7,7 @@ ghost use Rattle.fixed_respell.specs.declared.command.Command.{Command};
 use crate::decimal::number_word;
 use line_engine::MAX_LIMIT;
 
-/// How many lines the self test generates at most.
+/// The most lines that the self test generates.
 const MAX_SELF_LINES: u64 = 1_000_000;
 
 /// What a run does.
@@ -15,11 +15,11 @@ const MAX_SELF_LINES: u64 = 1_000_000;
 pub enum Command {
     /// Answers the lines of an input of at most this many bytes.
     Read(u64),
-    /// Answers this many generated lines, and sums their answers up.
+    /// Answers this many generated lines and sums up their answers.
     SelfTest(u64),
 }
 
-/// The number from 1 to `most` that the word is in decimal. None where it is none.
+/// Reads a number from 1 to `most` in decimal. `None`: the word is not one.
 fn count_word(word: &[u8], most: u64) -> Option<u64>
     requires { most < 10 ^ 10 }
     ensures number { MatchOption result ((n : ℕ) → 1 ≤ n → n ≤ most → ¬ (word.now ≡ decimal n))
@@ -32,7 +32,7 @@ fn count_word(word: &[u8], most: u64) -> Option<u64>
     }
 }
 
-/// The command of a name and a number. None where they are no command.
+/// Returns the command of a name and a number. `None`: they are not a command.
 fn numbered_command(name: &[u8], number: &[u8]) -> Option<Command>
     ensures { MatchOption result ((c : Command) → ¬ IsNumbered name.now number.now c)
         (λ c. IsNumbered name.now number.now c) }
@@ -50,7 +50,7 @@ fn numbered_command(name: &[u8], number: &[u8]) -> Option<Command>
     }
 }
 
-/// The command that the arguments ask for. None where they are no command.
+/// Returns the command that the arguments request. `None`: they are not a command.
 pub(crate) fn read_command(args: &[String]) -> Option<Command>
     ensures { MatchOption result (IsUsageFault args.now) (λ c. IsCommand args.now c) }
 {

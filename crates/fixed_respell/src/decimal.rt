@@ -1,9 +1,9 @@
-//! Numbers in decimal, as they are written.
+//! Numbers written in decimal.
 
 ghost use Rattle.std.specs.Prelude.{◌≡◌, ◌≤◌, ◌<◌, ◌^◌, ℕ, length, MatchOption, IfSome, decimal};
 ghost use Rattle.std.specs.Str.Parse.{AllDigits, digits_value};
 
-/// The number that the digits spell. None where a byte is no decimal digit.
+/// Returns the number that the digits spell. `None`: a byte is not a decimal digit.
 fn digits_number(digits: &[u8]) -> Option<u64>
     requires { length digits.now ≤ 10 }
     ensures { MatchOption result (¬ AllDigits 10 digits.now)
@@ -19,7 +19,7 @@ fn digits_number(digits: &[u8]) -> Option<u64>
     Some(number)
 }
 
-/// The number of at most `most` that the word is in decimal, without a leading zero. None where it is none.
+/// Reads a number of at most `most` in decimal, without a leading zero. `None`: the word is not one.
 pub fn number_word(word: &[u8], most: u64) -> Option<u64>
     requires { most < 10 ^ 10 }
     ensures number { MatchOption result ((n : ℕ) → n ≤ most → ¬ (word.now ≡ decimal n)) (λ n. word.now ≡ decimal n) }

@@ -2,27 +2,27 @@
 
 ghost use Rattle.std.specs.Prelude.{◌≡◌};
 
-/// Why a line asks for nothing, in the order in which the faults are looked for.
+/// The reasons why a line has no task, in the order in which they are tested.
 #[derive(Clone, Copy, Debug, PartialEq, Eq)]
 pub enum LineFault {
-    /// It has more than 1,048,576 bytes.
+    /// The line has more than 1,048,576 bytes.
     LineTooLong,
-    /// It has fewer than four spaces.
+    /// The line has fewer than four spaces.
     MissingField,
-    /// Its first word is not a radix.
+    /// The first field is not a radix.
     BadRadix,
-    /// Its second word is not a format.
+    /// The second field is not a format.
     BadSource,
-    /// Its third word is not a format.
+    /// The third field is not a format.
     BadTarget,
-    /// Its fourth word is not a policy.
+    /// The fourth field is not a policy.
     BadPolicy,
 }
 
 impl LineFault {
     ghost use Rattle.fixed_respell.specs.Answer.{fault_message};
 
-    /// The message of the fault, as an answer reports it.
+    /// Returns the message of the fault, as an answer reports it.
     pub fn words(self) -> &'static str
         ensures { result.now ≡ fault_message self }
     {

@@ -1,8 +1,8 @@
-//! The fields of a line: the words before its first four spaces, and all that follows the fourth.
+//! The fields of a line: one before each of its first four spaces, and all bytes after the fourth.
 //!
-//! In nearly every line the four spaces are among the first 32 bytes. Those are compared with a space at once, which
-//! makes a mask with a bit for each byte; each lowest bit of it ends a word. Other lines are split at one space after
-//! the other.
+//! In nearly every line the four spaces are among the first 32 bytes. They are compared with a space at once, which
+//! makes a mask with a bit for each byte; each lowest bit of it ends a field. If the mask has only three, the fourth
+//! space is searched for. Other lines are split at one space after another.
 
 ghost use Rattle.std.specs.Prelude.{◌≡◌, ◌<◌, ◌≤◌, ◌/◌, ◌==◌, [], ◌∷◌, length, map, take, MatchOption, IfSome};
 ghost use lib.Lanes.{mask_l};
@@ -13,7 +13,7 @@ ghost use Rattle.fixed_respell.specs.Split.{IsSplit, count_of};
 use crate::split::split_once;
 use std::simd::prelude::*;
 
-/// The words before a line's first four spaces, and all that follows the fourth.
+/// The bytes before each of a line's first four spaces, and all bytes after the fourth.
 #[derive(Drop)]
 pub(crate) struct Fields<'a> {
     pub radix: &'a [u8],
@@ -23,10 +23,10 @@ pub(crate) struct Fields<'a> {
     pub numeral: &'a [u8],
 }
 
-/// How many bytes are compared together.
+/// The number of bytes compared together.
 const LANES: usize = 16;
 
-/// Which of the first 16 bytes are spaces, a bit for each.
+/// Returns which of the first 16 bytes are spaces, as a bit for each byte.
 #[inline(always)]
 fn spaces_of_sixteen(bytes: &[u8]) -> u64
     requires { LANES ≤ length bytes.now }
@@ -38,7 +38,7 @@ fn spaces_of_sixteen(bytes: &[u8]) -> u64
         .to_bitmask()
 }
 
-/// Which of a line's first bytes are spaces: of the first 32, or of all where there are fewer.
+/// Returns which of a line's first 32 bytes are spaces, or of all bytes if there are fewer.
 #[inline(always)]
 fn spaces_of_prefix(line: &[u8]) -> u64
     requires { LANES ≤ length line.now }
@@ -50,7 +50,7 @@ fn spaces_of_prefix(line: &[u8]) -> u64
     low + (high >> (LANES - at)) * 65536
 }
 
-/// The place of the first space by a mask that has one, and the mask of the bytes after it.
+/// Returns the index of the first space in a mask that has one, and the mask of the bytes after it.
 #[inline(always)]
 fn first_space(line: &[u8], spaces: u64) -> (usize, u64)
     requires has { HasSpaces line.now spaces }
@@ -61,7 +61,7 @@ fn first_space(line: &[u8], spaces: u64) -> (usize, u64)
     (place, (spaces >> place) >> 1)
 }
 
-/// The bytes before the first space, those after it, and their mask. None where the mask has no space.
+/// Returns the bytes before the first space, those after it, and their mask. `None`: the mask has no space.
 #[inline(always)]
 fn split_at_space(line: &[u8], spaces: u64) -> Option<(&[u8], &[u8], u64)>
     requires { HasSpaces line.now spaces }
@@ -75,7 +75,7 @@ fn split_at_space(line: &[u8], spaces: u64) -> Option<(&[u8], &[u8], u64)>
     Some((&line[..place], &line[place + 1..], after))
 }
 
-/// The fields of a line by a mask of its first bytes. None where that has fewer than four spaces.
+/// Splits a line into its fields by a mask of its first bytes. `None`: the mask has fewer than four spaces.
 #[inline(always)]
 fn split_at_spaces(line: &[u8], spaces: u64) -> Option<Fields<'_>>
     requires { HasSpaces line.now spaces }
@@ -103,8 +103,36 @@ fn split_at_spaces(line: &[u8], spaces: u64) -> Option<Fields<'_>>
     })
 }
 
-/// The fields of a line, split at one space after the other. None where it has fewer than four.
-#[inline(never)]
+/// Splits a line into its fields by a mask of its first bytes that has three spaces or more, and a search for the
+/// fourth. `None`: either has fewer.
+#[inline(always)]
+fn split_past_mask(line: &[u8], spaces: u64) -> Option<Fields<'_>>
+    requires { HasSpaces line.now spaces }
+    ensures { IfSome result (λ f. HasWords line.now (f.radix.now ∷ f.source.now ∷ f.target.now ∷ f.policy.now ∷ [])
+        f.numeral.now) }
+{
+    let Some((radix, rest, spaces)) = split_at_space(line, spaces) else {
+        return None;
+    };
+    let Some((source, rest, spaces)) = split_at_space(rest, spaces) else {
+        return None;
+    };
+    let Some((target, rest, _spaces)) = split_at_space(rest, spaces) else {
+        return None;
+    };
+    let Some((policy, numeral)) = split_once(rest, b' ') else {
+        return None;
+    };
+    Some(Fields {
+        radix,
+        source,
+        target,
+        policy,
+        numeral,
+    })
+}
+
+/// Splits a line into its fields at one space after another. `None`: it has fewer than four.
 fn split_one_by_one(line: &[u8]) -> Option<Fields<'_>>
     ensures { MatchOption result (count_of space line.now < 4)
         (λ f. HasWords line.now (f.radix.now ∷ f.source.now ∷ f.target.now ∷ f.policy.now ∷ []) f.numeral.now) }
@@ -130,7 +158,21 @@ fn split_one_by_one(line: &[u8]) -> Option<Fields<'_>>
     })
 }
 
-/// The fields of a line. None where it has fewer than four spaces.
+/// Splits a line whose fourth space is not among its first 32 bytes into its fields. `None`: it has fewer than four.
+#[inline(never)]
+fn split_late(line: &[u8]) -> Option<Fields<'_>>
+    ensures { MatchOption result (count_of space line.now < 4)
+        (λ f. HasWords line.now (f.radix.now ∷ f.source.now ∷ f.target.now ∷ f.policy.now ∷ []) f.numeral.now) }
+{
+    if line.len() >= LANES {
+        if let Some(fields) = split_past_mask(line, spaces_of_prefix(line)) {
+            return Some(fields);
+        }
+    }
+    split_one_by_one(line)
+}
+
+/// Splits a line into its fields. `None`: it has fewer than four spaces.
 #[inline(always)]
 pub(crate) fn split_line(line: &[u8]) -> Option<Fields<'_>>
     ensures { MatchOption result (count_of space line.now < 4)
@@ -141,5 +183,5 @@ pub(crate) fn split_line(line: &[u8]) -> Option<Fields<'_>>
             return Some(fields);
         }
     }
-    split_one_by_one(line)
+    split_late(line)
 }

@@ -13,7 +13,7 @@ use crate::decimal::number_word;
 use crate::split::split_once;
 use fixed_bits::Format;
 
-/// The count of bits below 100 that bytes are in decimal. None where they are none.
+/// Reads a count of bits below 100 in decimal. `None`: the bytes are not one.
 fn count_of(digits: &[u8]) -> Option<u32>
     ensures { MatchOption result
         ((n : ℕ) → n < 100 → ¬ (digits.now ≡ decimal n))
@@ -25,7 +25,7 @@ fn count_of(digits: &[u8]) -> Option<u32>
     }
 }
 
-/// The counts around the first byte of a kind that is no digit. None where the bytes are not two counts around it.
+/// Reads the counts around the first `mark`, which is not a digit. `None`: the bytes are not two counts around it.
 fn counts_around(bytes: &[u8], mark: u8) -> Option<(u32, u32)>
     requires { (mark < 48) ⊎ (57 < mark) }
     ensures { MatchOption result
@@ -44,7 +44,7 @@ fn counts_around(bytes: &[u8], mark: u8) -> Option<(u32, u32)>
     Some((whole, frac))
 }
 
-/// The counts around an F in either case.
+/// Reads the counts around an F in either case.
 fn counts_around_letter(bytes: &[u8]) -> Option<(u32, u32)>
     ensures { MatchOption result
         ((mark whole frac : ℕ) → IsLetter fraction_letter mark → whole < 100 → frac < 100
@@ -58,7 +58,7 @@ fn counts_around_letter(bytes: &[u8]) -> Option<(u32, u32)>
     }
 }
 
-/// The format with a sign rule whose whole bits, zero or more, F and fraction bits these are.
+/// Reads whole bits, zero or more, F and fraction bits as a format with a sign rule.
 fn counted_within(signed: bool, rest: &[u8]) -> Option<Format>
     ensures { MatchOption result
         ((f : FormatParts) → ¬ IsCountedWithin signed rest.now f)
@@ -70,7 +70,7 @@ fn counted_within(signed: bool, rest: &[u8]) -> Option<Format>
     }
 }
 
-/// The format with a sign rule whose whole bits, below zero and after their minus, F and fraction bits these are.
+/// Reads whole bits, below zero and after their minus, F and fraction bits as a format with a sign rule.
 fn counted_beyond(signed: bool, rest: &[u8]) -> Option<Format>
     ensures { MatchOption result
         ((f : FormatParts) → ¬ IsCountedBeyond signed rest.now f)
@@ -85,7 +85,7 @@ fn counted_beyond(signed: bool, rest: &[u8]) -> Option<Format>
     Format::of_any_width(signed, frac.saturating_sub(missing), frac)
 }
 
-/// The format with a sign rule whose whole bits, F and fraction bits these are.
+/// Reads whole bits, F and fraction bits as a format with a sign rule.
 fn counted(signed: bool, rest: &[u8]) -> Option<Format>
     ensures { MatchOption result
         ((f : FormatParts) → ¬ IsCounted signed rest.now f)
@@ -97,8 +97,7 @@ fn counted(signed: bool, rest: &[u8]) -> Option<Format>
     }
 }
 
-/// The format with a sign rule whose whole bits, point and fraction bits these are, where the sign bit is one of the
-/// whole bits.
+/// Reads whole bits, a point and fraction bits as a format with a sign rule. The sign bit is one of the whole bits.
 fn pointed(signed: bool, rest: &[u8]) -> Option<Format>
     ensures { MatchOption result
         ((f : FormatParts) → ¬ IsPointed signed rest.now f)
@@ -113,7 +112,7 @@ fn pointed(signed: bool, rest: &[u8]) -> Option<Format>
     Format::of_any_width(signed, whole + frac, frac)
 }
 
-/// The format whose fraction bits these are, beside its sign bit.
+/// Reads fraction bits as a format with these and a sign bit.
 fn fraction(rest: &[u8]) -> Option<Format>
     ensures { MatchOption result ((f : FormatParts) → ¬ IsFraction rest.now f) (λ f. IsFraction rest.now f) }
 {
@@ -123,7 +122,7 @@ fn fraction(rest: &[u8]) -> Option<Format>
     }
 }
 
-/// The format of what is left of a name after Q.
+/// Returns the format of the rest of a name after Q.
 fn after_q(rest: &[u8]) -> Option<Format>
     ensures { MatchOption result ((f : FormatParts) → ¬ IsAfterQ rest.now f) (λ f. IsAfterQ rest.now f) }
 {
@@ -133,7 +132,7 @@ fn after_q(rest: &[u8]) -> Option<Format>
     }
 }
 
-/// The first byte, and those after it. None where there is none.
+/// Returns the first byte and the bytes after it. `None`: there are no bytes.
 fn split_first(bytes: &[u8]) -> Option<(u8, &[u8])>
     ensures { MatchOption result (bytes.now ≡ []) (λ r. bytes.now ≡ r.0 ∷ r.1.now) }
 {
@@ -144,7 +143,7 @@ fn split_first(bytes: &[u8]) -> Option<(u8, &[u8])>
     }
 }
 
-/// Whether a byte is a letter, by its capital, in either case.
+/// Whether a byte is the letter `capital` in either case.
 fn is_letter(byte: u8, capital: u8) -> bool
     requires { capital < 128 }
     ensures { IsTrue result ↔ IsLetter capital byte }
@@ -152,7 +151,7 @@ fn is_letter(byte: u8, capital: u8) -> bool
     byte == capital || byte == capital + 32
 }
 
-/// The format of what is left of a name after U.
+/// Returns the format of the rest of a name after U.
 fn after_u(rest: &[u8]) -> Option<Format>
     ensures { MatchOption result ((f : FormatParts) → ¬ IsAfterU rest.now f) (λ f. IsAfterU rest.now f) }
 {
@@ -162,12 +161,12 @@ fn after_u(rest: &[u8]) -> Option<Format>
     }
 }
 
-/// The format that a word names, of any width from 1 to 64 bits, with a fraction of 0 to 64. `None` where it names
-/// none.
+/// Returns the format that a word names, of any width from 1 to 64 bits, with a fraction of 0 to 64. `None`: it does
+/// not name a format.
 ///
-/// It is I or U, whole bits, F, fraction bits, where whole bits below zero have a minus: I-9F25 has 16 bits; or Q or
-/// UQ, whole bits, a point, fraction bits, by ARM's counting, in which the sign bit is one of the whole bits; or Q and
-/// fraction bits, with one whole bit. Letters stand in either case.
+/// A name is I or U, whole bits, F, fraction bits, with a minus before whole bits below zero: I-9F25 has 16 bits; or Q
+/// or UQ, whole bits, a point, fraction bits, in ARM's counting, in which the sign bit is one of the whole bits; or Q
+/// and fraction bits, with one whole bit. Letters may have either case.
 pub fn format_named(word: &[u8]) -> Option<Format>
     ensures { MatchOption result ((f : FormatParts) → ¬ IsFormatName word.now f) (λ f. IsFormatName word.now f) }
 {

@@ -1,19 +1,18 @@
-//! The formats by the counts in their words, in a table.
+//! A table of the formats by the counts in their words.
 //!
 //! The word of a format has four to six bytes: a letter for its sign rule, and two counts with an `F` between them. The
-//! bytes after the letter are one number of at most 40 bits, the first byte in the lowest place. With the count of the
-//! word's bytes in the sixth byte that is the word's key, below 2^48. An entry of the table is a key, the fraction
-//! length in the seventh byte, and the width in the eighth. It is at the place that the first eight bits of the product
-//! of its key and `MULTIPLIER` name: of the multipliers that were tried this is the first by which no two of the 124
-//! keys share a place. So one multiplication and one comparison find the two counts, and no branch depends on how many
-//! digits they have.
+//! bytes after the letter are one number of at most 40 bits, with the first byte lowest. With the count of the word's
+//! bytes in the sixth byte this is the word's key, below 2^48. An entry of the table is a key, the fraction length in
+//! the seventh byte, and the width in the eighth. Its index is the first eight bits of the product of its key and
+//! `MULTIPLIER`, the first of the tried multipliers with which no two of the 124 keys share an index. So one
+//! multiplication and one comparison find the two counts, and no branch depends on the number of their digits.
 
 ghost use Rattle.std.specs.Prelude.{◌≡◌, ◌<◌, ◌≤◌, ◌^◌, ◌*◌, ◌+◌, ℕ, length, get_or, MatchOption};
 ghost use Rattle.std.specs.Simd.Lanes.{number_l};
 ghost use Rattle.fixed_bits.specs.Formats.{IsTypeFormat};
 ghost use Rattle.fixed_respell.specs.Inner.FormatKeys.{IsEntry, counts_word, word_key};
 
-/// What a key is multiplied with.
+/// The multiplier of keys.
 const MULTIPLIER: u64 = 9_476_561_537_795_100_451;
 
 /// The entries; no entry is 0.
@@ -276,7 +275,7 @@ const FORMATS: [u64; 256] = [
     0x2015_0631_3246_3131,
 ];
 
-/// Four bytes from a place on as a number, the first of them in the lowest place.
+/// Returns four bytes from index `at` on as a number, with the first byte lowest.
 #[inline(always)]
 pub(crate) fn four_bytes(word: &[u8], at: usize) -> u64
     requires { at + 4 ≤ length word.now }
@@ -286,7 +285,7 @@ pub(crate) fn four_bytes(word: &[u8], at: usize) -> u64
     u64::from(u32::from_le_bytes([word[at], word[at + 1], word[at + 2], word[at + 3]]))
 }
 
-/// The bytes of a word of four to six bytes as a number, the first of them in the lowest place.
+/// Returns the bytes of a word of four to six bytes as a number, with the first byte lowest.
 #[inline(always)]
 fn word_number(word: &[u8]) -> u64
     requires least { 4 ≤ length word.now }
@@ -297,7 +296,7 @@ fn word_number(word: &[u8]) -> u64
     four_bytes(word, 0) + ((last >> (8 * (8 - word.len()))) << 32)
 }
 
-/// The key of a word of four to six bytes.
+/// Returns the key of a word of four to six bytes.
 #[inline(always)]
 pub(crate) fn key_of(word: &[u8]) -> u64
     requires least { 4 ≤ length word.now }
@@ -309,7 +308,7 @@ pub(crate) fn key_of(word: &[u8]) -> u64
     (word_number(word) >> 8) + ((word.len() as u64) << 40)
 }
 
-/// The entry at the place of a key.
+/// Returns the entry at the index of a key.
 #[inline(always)]
 fn entry_at(key: u64) -> u64
     ensures sound { 0 < result → IsEntry result }
@@ -319,7 +318,7 @@ fn entry_at(key: u64) -> u64
     FORMATS[(key.wrapping_mul(MULTIPLIER) >> 56) as usize]
 }
 
-/// The width and the fraction length of the formats whose words have a key. None where no format's word has it.
+/// Returns the width and the fraction length of the formats whose words have a key. `None`: no format's word has it.
 #[inline(always)]
 pub(crate) fn counts_of_key(key: u64) -> Option<(u32, u32)>
     requires some { 0 < key }

@@ -1,4 +1,4 @@
-//! Laws of the definitions, each the contract of a function that does nothing.
+//! Laws of the definitions. Each is the contract of a function that does nothing.
 
 ghost use Rattle.std.specs.Prelude.{pos, negsuc, true, false, codes};
 ghost use Rattle.fixed_respell.specs.Answer.{IsAnswer};
@@ -37,12 +37,12 @@ ghost use Rattle.fixed_respell.specs.SelfLaws.{
   SummaryIsTheOne,
 };
 
-/// From a numeral at most one pair of bits and a flag is reached.
+/// A numeral reaches at most one pair of bits and a flag.
 pub fn reached_is_the_one()
     ensures { ReachedIsTheOne }
 {}
 
-/// Where nothing is reached there are no bits that are.
+/// A numeral that is refused as an overflow reaches no bits.
 pub fn overflowed_has_none()
     ensures { OverflowedHasNone }
 {}
@@ -57,12 +57,12 @@ pub fn refusal_has_none()
     ensures { RefusalHasNone }
 {}
 
-/// Bytes are refused for one kind at most.
+/// Bytes are refused with at most one kind.
 pub fn refusal_is_the_one()
     ensures { RefusalIsTheOne }
 {}
 
-/// What some numerals reach. 2.99 is 48 ulps of 1/16, and these are 3: the value is rounded to the source first. 300 is
+/// What some numerals reach. 2.99 is 48 ulps of 1/16, which are 3: the value is rounded to the source first. 300 is
 /// brought into the source by the policy, and 17 into the target. 2.5 and -2.5 are ties between two whole numbers. In
 /// radix 8 and 2 an exponent after `p` scales by two: 0.1p1 is 1/4, and 1.1p3 is 12. C0F.FE is 790,526 ulps of 1/256.
 pub fn worked_examples()
@@ -116,9 +116,9 @@ pub fn worked_examples()
         (unsigned_format 8 8) (pos 4094) true }
 {}
 
-/// What some whole lines are answered. 2.99 is rounded to the source first, so its text is 3. 51 ulps of 1/16 are
-/// 3.1875, and 3.2 reads back as them; 1/4 is as near to 0.2 as to 0.3, and both read back. 300 is past its source, and
-/// Checked refuses it. `1_0` is no numeral. The last line has two faults, and is answered with the first of them.
+/// The answers to some whole lines. 2.99 is rounded to the source first, so its text is 3. 51 ulps of 1/16 are 3.1875,
+/// and 3.2 reads back as them; 1/4 is as near to 0.2 as to 0.3, and both read back. 300 is out of its source's range,
+/// and Checked refuses it. `1_0` is not a numeral. The last line has two faults and is answered with the first.
 pub fn worked_answers()
     ensures respelled { IsAnswer (codes "10 U4F4 U8F0 checked 2.99")
         (record { text = codes "3 3 fits"; fault = false }) }
@@ -140,18 +140,18 @@ pub fn worked_answers()
         (record { text = codes "error: bad radix"; fault = true }) }
 {}
 
-/// A word is the word of one format at most. So `format_word` of what `format_name` answers is that very format.
+/// A word is the word of at most one format. So `format_word` of the result of `format_name` is the same format.
 #[tactic(auto, using(crate::specs::Lemmas::AnswerLemmas::format_word_one))]
 pub fn format_word_is_the_one()
     ensures { FormatWordIsTheOne }
 {}
 
-/// A word names one format at most. So `format_named` of what `format_name` answers is that very format, of any width.
+/// A word names at most one format. So `format_named` of the result of `format_name` is the same format, of any width.
 pub fn format_name_is_the_one()
     ensures { FormatNameIsTheOne }
 {}
 
-/// The word of a format, by which the programs of lines know it, is a name of it.
+/// The word of a format, which the programs of lines use, is one of its names.
 #[tactic(auto, using(crate::proofs::FormatNameLemmas::word_names))]
 pub fn format_word_is_a_name()
     ensures { FormatWordIsAName }
@@ -162,38 +162,36 @@ pub fn answer_is_the_one()
     ensures { AnswerIsTheOne }
 {}
 
-/// A line has at most one answer where formats are of any width and have any of their names.
+/// A line has at most one answer if formats are of any width and have any of their names.
 pub fn named_answer_is_the_one()
     ensures { NamedAnswerIsTheOne }
 {}
 
-/// A line that asks for something by the words of formats is answered the same where formats have any of their names.
+/// A line with a task in the words of formats has the same answer if formats have any of their names.
 pub fn named_answer_is_the_answer()
     ensures { NamedAnswerIsTheAnswer }
 {}
 
-/// A line that is longer than what is kept of a line is answered like its prefix of that length.
+/// A line longer than the kept prefix of a line is answered like that prefix.
 pub fn long_is_answered_by_prefix()
     ensures { LongIsAnsweredByPrefix }
 {}
 
-/// A word without a slash names a policy and a mode exactly where it is the policy's own word and the mode is
-/// NearestEven.
+/// A word without a slash names a policy and a mode exactly if it is the policy's own word and the mode is NearestEven.
 #[tactic(auto, using(crate::specs::Lemmas::AnswerLemmas::plain_word))]
 pub fn plain_word_names_nearest()
     ensures { PlainWordNamesNearest }
 {}
 
-/// A line that asks for something by a fourth word without a slash asks for the policy of that very name, with the mode
-/// NearestEven.
+/// A line with a task and no slash in its fourth field requests the policy of that name, with the mode NearestEven.
 #[tactic(auto, using(crate::specs::Lemmas::AnswerLemmas::plain_line))]
 pub fn plain_line_asks_nearest()
     ensures { PlainLineAsksNearest }
 {}
 
-/// A line whose fourth word holds no slash is answered as if mode words did not exist: it has the answers that it has
-/// where a fourth word names a policy by the policy's own word alone, with the mode NearestEven, and no others. So does
-/// a line without a fourth word.
+/// A line without a slash in its fourth field is answered as if mode words did not exist: it has exactly the answers
+/// that it has if a fourth field names a policy only by the policy's own word, with the mode NearestEven. The same
+/// holds for a line without a fourth field.
 pub fn plain_line_has_the_plain_answer()
     ensures { PlainLineHasThePlainAnswer }
 {}
@@ -213,7 +211,7 @@ pub fn self_test_begins_with_these_lines()
     ensures { SelfTestBegins }
 {}
 
-/// The count of failed writes says how a self test ended, and where none failed it wrote one text.
+/// The count of failed writes says how a self test ended, and if none failed, it wrote one text.
 #[tactic(auto, using(crate::proofs::SelfLawLemmas::self_run_one))]
 pub fn self_run_is_the_one()
     ensures { SelfRunIsTheOne }
@@ -225,7 +223,7 @@ pub fn policy_word_is_the_one()
     ensures { PolicyWordIsTheOne }
 {}
 
-/// Arguments ask for at most one command.
+/// Arguments request at most one command.
 #[tactic(auto, using(crate::proofs::CommandLemmas::command_one))]
 pub fn command_is_the_one()
     ensures { CommandIsTheOne }

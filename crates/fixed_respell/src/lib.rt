@@ -1,5 +1,5 @@
-//! Lines of numerals, answered one at a time from a source to a sink. The devices are those of `line_engine`, and the
-//! engine that reads the lines and writes the answers is `run_engine`; their names are handed on from here.
+//! Lines of numerals, answered one at a time from a source to a sink. The devices are those of `line_engine`, and
+//! `run_engine` reads the lines and writes the answers. Their names are exported again here.
 #![tactic(auto)]
 
 pub mod answering;
@@ -27,7 +27,7 @@ pub use line_engine::{Answer, Failed, MemorySink, MemorySource, Sink, Source, St
 pub use program::run;
 pub use refusal::{Fault, Refusal};
 pub use respell_rule::RespellRule;
-pub use respelling::{Bits, Respelled, respell, respell_mode};
+pub use respelling::{Bits, Respelled, reached_image, respell, respell_mode};
 pub use run_engine::{LineRule, run_lines};
 pub use split::split_once;
 pub use words::{FormatName, format_name, format_word, policy_word, radix_word};

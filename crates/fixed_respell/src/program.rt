@@ -1,4 +1,4 @@
-//! The program: what its arguments ask for.
+//! The program: it does what its arguments request.
 
 ghost use Rattle.std.specs.Prelude.{◌≡◌, ◌≤◌, ◌<◌, ◌⊎◌, List, ℕ, Some, length};
 ghost use Rattle.fixed_respell.specs.Answer.{IsAnswer};
@@ -21,15 +21,15 @@ use run_engine::run_lines;
 use std::alloc::Global;
 use std::sync::ledger::Ledger;
 
-/// What is written for arguments that are no command.
+/// The usage line.
 const USAGE: &[u8] = b"usage: fixed_tool [limit N | self N]\n";
 
-/// Does what the arguments ask for.
+/// Does what the arguments request.
 ///
-/// No argument asks for the answers to the lines of an input of at most 4,294,967,296 bytes, and `limit N` for those of
-/// an input of at most N bytes, from 1 to 4,294,967,296. `self N`, from 1 to 1,000,000, asks for the summary of the
-/// answers to N generated lines: it reads nothing. For other arguments the usage line is written. N is in decimal,
-/// without a sign or a leading zero. Only a run that reads takes memory, for one line buffer before the first read.
+/// Without arguments it answers the lines of an input of at most 4,294,967,296 bytes, and with `limit N` those of an
+/// input of at most N bytes, from 1 to 4,294,967,296. With `self N`, from 1 to 1,000,000, it sums up the answers to N
+/// generated lines and reads nothing. For other arguments it writes the usage line. N is in decimal, without a sign or
+/// a leading zero. Only a run that reads takes memory, for one line buffer before the first read.
 pub fn run<S: Source, K: Sink, L: Ledger>(
     alloc: Global,
     args: &[String],
@@ -37,8 +37,8 @@ pub fn run<S: Source, K: Sink, L: Ledger>(
     sink: &mut K,
     steps: &mut Steps<L>,
 ) -> Status
-    // For every input within the limit, with no failed read or write, the run writes for each line, in order and
-    // nothing else, its answer and a newline, and the status says whether an answer is a fault; or there was no memory.
+    // For every input within the limit, with no failed read or write, the run writes for each line, in order, its
+    // answer and a newline, and nothing else. The status says whether an answer is a fault. Or there was no memory.
     ensures output { (limit : ℕ) → IsCommand args.now (Read limit) → (input : List ℕ) → S.left source.old ≡ Some input
         → length input ≤ limit
         → ¬ HasFailed (S.failures source.old) (S.failures source.new)
@@ -52,7 +52,7 @@ pub fn run<S: Source, K: Sink, L: Ledger>(
         → ¬ HasFailed (K.failures sink.old) (K.failures sink.new)
         → (result ≡ Status.NoMemory) ⊎ (result ≡ Status.TooLong) }
 
-    // What was taken and what was written, by status, also after a failed read or write.
+    // What was read and written, by status, even after a failed read or write.
     ensures run { (limit : ℕ) → IsCommand args.now (Read limit)
         → HasRun IsAnswer limit (S.left source.old) (S.left source.new) (K.written sink.old)
         (K.written sink.new) result }
@@ -63,8 +63,7 @@ pub fn run<S: Source, K: Sink, L: Ledger>(
     ensures cost { (limit : ℕ) → IsCommand args.now (Read limit)
         → Spends limit 8 624 (S.left source.old) (S.left source.new) steps.old steps.new }
 
-    // What the source was asked for: no read asked for more than limit + 1 bytes less those taken, or for more than
-    // 4,096.
+    // No read requested more than limit + 1 bytes less those taken, or more than 4,096.
     ensures asked { (limit : ℕ) → IsCommand args.now (Read limit)
         → AskedWithin limit (S.asked source.old) (S.asked source.new) }
 
@@ -79,7 +78,7 @@ pub fn run<S: Source, K: Sink, L: Ledger>(
         (K.failures sink.new) result }
     ensures usage_only { result ≡ Status.Usage → IsUsageFault args.now }
 
-    // Which count of failures rose, by status; and what was left alone.
+    // Which count of failures rose, by status; and what was left unchanged.
     ensures failures { HasFailures (S.failures source.old) (S.failures source.new) (K.failures sink.old)
         (K.failures sink.new) result }
     ensures untouched { ((limit : ℕ) → ¬ IsCommand args.now (Read limit)) → source.new ≡ source.old }

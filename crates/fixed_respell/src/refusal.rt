@@ -12,7 +12,7 @@ pub trait Fault {
     /// The message of the fault.
     ghost text: { Self → List ℕ };
 
-    /// The message of the fault, as an answer reports it: at most 64 bytes.
+    /// Returns the message of the fault, as an answer reports it: at most 64 bytes.
     fn report(&self) -> &'static str
         ensures text { result.now ≡ text self.now }
         ensures short { length result.now ≤ 64 };
@@ -40,7 +40,7 @@ pub enum Refusal<F> {
 impl<F: Fault> Refusal<F> {
     ghost use Rattle.fixed_respell.specs.Refusal.{refusal_message};
 
-    /// The message of the refusal, as an answer reports it: at most 64 bytes.
+    /// Returns the message of the refusal, as an answer reports it: at most 64 bytes.
     pub fn words(&self) -> &'static str
         ensures text { result.now ≡ refusal_message F.text self.now }
         ensures short { length result.now ≤ 64 }

@@ -1,4 +1,4 @@
-//! The rule of the program: each line is answered as `answer` does.
+//! The rule of the program.
 
 ghost use Rattle.std.proofs.Common.{lit<};
 ghost use Rattle.fixed_respell.specs.Answer.{IsAnswer};

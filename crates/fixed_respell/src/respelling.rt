@@ -3,7 +3,7 @@
 ghost use Rattle.std.specs.Prelude.{◌≡◌, ◌↔◌, ◌⊎◌, ◌≤◌, ◌+◌, ◌-◌, ◌*◌, ℤ, Bool, IsTrue, IsOk, IfOk, IfErr, drop};
 ghost use Rattle.std.specs.Prelude.{length};
 ghost use Rattle.fixed_bits.specs.Numbers.{number_of_image};
-ghost use Rattle.fixed_bits.specs.Ranges.{IsInRange};
+ghost use Rattle.fixed_bits.specs.Ranges.{IsInRange, IsWide};
 ghost use Rattle.fixed_bits.specs.declared.mode.ReadMode.TheVariants.{NearestEven};
 ghost use Rattle.fixed_write.specs.Texts.{IsShortestText};
 ghost use Rattle.fixed_respell.specs.Reached.{IsRespelled, IsRefusal, number_of, is_signed};
@@ -25,7 +25,7 @@ pub enum Bits {
     Unsigned(u64),
 }
 
-/// What is reached from a numeral.
+/// The result of a numeral.
 #[derive(Drop)]
 pub struct Respelled {
     /// The bits in the target.
@@ -38,7 +38,7 @@ pub struct Respelled {
 }
 
 /// Reads a numeral into the source format in the mode `NearestEven`, rounds the number down (floor) to the target's
-/// fraction length, and prints it. The policy says what is done with a number that is out of a format's range.
+/// fraction length, and prints it. The policy says what to do with a number that is out of a format's range.
 ///
 /// The errors are those of `respell_mode`.
 pub fn respell<L: Ledger>(
@@ -70,10 +70,10 @@ pub fn respell<L: Ledger>(
 }
 
 /// Reads a numeral into the source format in a mode, rounds the number down (floor) to the target's fraction length,
-/// and prints it. The policy says what is done with a number that is out of a format's range.
+/// and prints it. The policy says what to do with a number that is out of a format's range.
 ///
-/// The error is why the bytes are no numeral, or `Overflow` where they are one and under `Checked` its read number is
-/// out of the source's range or, rounded down, out of the target's.
+/// The error is the reason why the bytes are not a numeral, or `Overflow` if they are one and under `Checked` its read
+/// number is out of the source's range or, rounded down, out of the target's.
 pub fn respell_mode<L: Ledger>(
     bytes: &[u8],
     radix: Radix,
@@ -92,6 +92,39 @@ pub fn respell_mode<L: Ledger>(
     ensures refused { IfErr result (λ kind. IsRefusal mode radix bytes.now policy source target kind) }
     ensures cost { steps.new ≤ steps.old + 8 * length bytes.now + 624 }
 {
+    let image = reached_image(bytes, radix, source, target, policy, mode, steps)?;
+    let number = image.number();
+    Ok(Respelled {
+        bits: bits_of(target, number),
+        overflowed: image.is_out_of_range,
+        text: shortest(number, target.frac(), steps),
+    })
+}
+
+/// Reads a numeral into the source format in a mode and rounds the number down (floor) to the target's fraction length.
+/// Returns its image in the target, without a text. The policy says what to do with a number that is out of a format's
+/// range.
+///
+/// The errors are those of `respell_mode`.
+#[inline]
+pub fn reached_image<L: Ledger>(
+    bytes: &[u8],
+    radix: Radix,
+    source: Format,
+    target: Format,
+    policy: Policy,
+    mode: ReadMode,
+    steps: &mut Steps<L>,
+) -> Result<Image, ParseFixedError>
+    ensures ok { IsOk result ↔ ((bits : ℤ) × (overflowed : Bool)
+        × IsRespelled mode radix bytes.now policy source target bits overflowed) }
+    ensures reached { IfOk result (λ s. IsRespelled mode radix bytes.now policy source target
+        (number_of_image s) s.is_out_of_range) }
+    ensures range { IfOk result (λ s. IsInRange target.signed target.width (number_of_image s)) }
+    ensures wide { IfOk result (λ s. IsWide (number_of_image s)) }
+    ensures refused { IfErr result (λ kind. IsRefusal mode radix bytes.now policy source target kind) }
+    ensures cost { steps.new ≤ steps.old + 8 * length bytes.now + 576 }
+{
     let task = Task {
         radix,
         source,
@@ -100,17 +133,11 @@ pub fn respell_mode<L: Ledger>(
         mode,
         numeral: bytes,
     };
-    let reached = reach(bytes, &task, steps)?;
-    let number = reached.number();
-    Ok(Respelled {
-        bits: bits_of(target, number),
-        overflowed: reached.is_out_of_range,
-        text: shortest(number, target.frac(), steps),
-    })
+    reach(bytes, &task, steps)
 }
 
-/// A numeral, the format that it is read into and the one that it is brought into, what is done with a number that is
-/// out of range, and how the numeral is rounded.
+/// A numeral, the format that it is read into, the format that it is brought into, what to do with a number that is out
+/// of range, and how the numeral is rounded.
 #[derive(Drop)]
 pub(crate) struct Task<'a> {
     pub(crate) radix: Radix,
@@ -121,11 +148,11 @@ pub(crate) struct Task<'a> {
     pub(crate) numeral: &'a [u8],
 }
 
-/// Reads a task's numeral, which a text ends with, into the source format, and brings the number into the target format
-/// by the policy: its image there, and whether a number on the way was out of its format's range.
+/// Reads a task's numeral, at the end of a text, into the source format, and brings the number into the target format
+/// by the policy. Returns its image there, and whether a number on the way was out of its format's range.
 ///
-/// The error is why the bytes are no numeral, or `Overflow` where they are one and under `Checked` its read number is
-/// out of the source's range or, rounded down, out of the target's.
+/// The error is the reason why the bytes are not a numeral, or `Overflow` if they are one and under `Checked` its read
+/// number is out of the source's range or, rounded down, out of the target's.
 #[inline(always)]
 pub(crate) fn reach<L: Ledger>(
     text: &[u8],
@@ -139,6 +166,7 @@ pub(crate) fn reach<L: Ledger>(
     ensures reached { IfOk result (λ s. IsRespelled task.now.mode task.now.radix task.now.numeral.now
         task.now.policy task.now.source task.now.target (number_of_image s) s.is_out_of_range) }
     ensures range { IfOk result (λ s. IsInRange task.now.target.signed task.now.target.width (number_of_image s)) }
+    ensures wide { IfOk result (λ s. IsWide (number_of_image s)) }
     ensures refused { IfErr result (λ kind. IsRefusal task.now.mode task.now.radix task.now.numeral.now
         task.now.policy task.now.source task.now.target kind) }
     ensures cost { steps.new ≤ steps.old + 8 * length task.now.numeral.now + 576 }
@@ -176,7 +204,7 @@ fn is_either(a: bool, b: bool) -> bool
     a || b
 }
 
-/// A number that is in a format's range, by the format's sign rule.
+/// Returns a number in a format's range as bits by the format's sign rule.
 fn bits_of(format: Format, number: i128) -> Bits
     requires { IsInRange format.signed format.width number }
     ensures number { number_of result ≡ number }

@@ -17,7 +17,7 @@ use line_engine::write_whole;
 use std::marker::Model;
 use std::sync::ledger::Ledger;
 
-/// How many bytes a generated line or the summary has at most.
+/// The greatest length of a generated line or the summary, in bytes.
 const MAX_TEXT: usize = 192;
 
 /// A generated line, or the summary.
@@ -50,7 +50,7 @@ fn push_number(text: &mut Text, base: u64, number: u64)
     }
 }
 
-/// Appends a part of a text, for which there is room.
+/// Appends a part of a text. There is room for it.
 fn push_part(text: &mut Text, part: &str)
     requires { length text.old.items + length part.now ≤ MAX_TEXT }
     ensures text { text.new.items ≡ text.old.items ++ part.now }
@@ -69,7 +69,7 @@ fn push_word(text: &mut Text, word: &str)
     text.push(b' ');
 }
 
-/// The radix of a line.
+/// Returns the radix of a line.
 fn radix_at(line: u64) -> u64
     ensures radix { result ≡ radix_at line }
     ensures least { 2 ≤ result }
@@ -83,7 +83,7 @@ fn radix_at(line: u64) -> u64
     }
 }
 
-/// The format at a place of the list, which starts over after its end.
+/// Returns the format at an index of the list, which starts over after its end.
 fn format_at(place: u64) -> &'static str
     ensures word { result.now ≡ format_at place }
     ensures short { length result.now ≤ 6 }
@@ -100,7 +100,7 @@ fn format_at(place: u64) -> &'static str
     }
 }
 
-/// The policy of a line.
+/// Returns the policy of a line.
 fn policy_at(line: u64) -> &'static str
     ensures word { result.now ≡ policy_at line }
     ensures short { length result.now ≤ 10 }
@@ -112,7 +112,7 @@ fn policy_at(line: u64) -> &'static str
     }
 }
 
-/// The sign of a line's numeral.
+/// Returns the sign of a line's numeral.
 fn sign_of(line: u64) -> &'static str
     ensures sign { result.now ≡ self_sign line }
     ensures short { length result.now ≤ 1 }
@@ -120,7 +120,7 @@ fn sign_of(line: u64) -> &'static str
     if line % 5 == 4 { "-" } else { "" }
 }
 
-/// The exponent of a line's numeral, with its separator.
+/// Returns the exponent of a line's numeral, with its separator.
 fn exponent_of(line: u64) -> &'static str
     ensures exponent { result.now ≡ self_exponent line }
     ensures short { length result.now ≤ 3 }
@@ -128,7 +128,7 @@ fn exponent_of(line: u64) -> &'static str
     if line % 7 == 6 { "@-3" } else { "" }
 }
 
-/// The words of a generated line, each followed by a space.
+/// Returns the fields of a generated line before its numeral, each followed by a space.
 #[tactic(auto, using(crate::proofs::SelfLemmas::radix_short))]
 fn self_words(line: u64) -> Text
     ensures words { result.items ≡ self_words line }
@@ -159,7 +159,7 @@ fn push_numeral(text: &mut Text, line: u64)
     push_part(text, exponent_of(line));
 }
 
-/// A generated line. It is shorter than 100 bytes.
+/// Returns a generated line. It is shorter than 100 bytes.
 #[tactic(auto, unfolding(crate::specs::SelfMode::self_line))]
 fn self_line(line: u64) -> Text
     requires few { line < 2 ^ 20 }
@@ -171,7 +171,7 @@ fn self_line(line: u64) -> Text
     text
 }
 
-/// How often an answer ends in a word: once or not at all.
+/// Returns 1 if an answer ends in a word, else 0.
 fn times_at_the_end(word: &[u8], reply: &Answer) -> u64
     ensures ends { result ≡ from_bool (ends_in word.now reply.now) }
     ensures once { result ≤ 1 }
@@ -179,7 +179,7 @@ fn times_at_the_end(word: &[u8], reply: &Answer) -> u64
     u64::from(reply.as_bytes().ends_with(word))
 }
 
-/// How many bytes are written for an answer, with its newline.
+/// Counts the bytes that are written for an answer, with its newline.
 fn bytes_with_newline(reply: &Answer) -> u64
     ensures bytes { result ≡ length (reply_line reply.now) }
     ensures short { result ≤ 193 }
@@ -187,8 +187,8 @@ fn bytes_with_newline(reply: &Answer) -> u64
     reply.as_bytes().len() as u64 + 1
 }
 
-/// How many answers end in `fits`, how many in `overflowed`, how many are faults, and the bytes of all, with a newline
-/// each.
+/// The number of answers that end in `fits`, that end in `overflowed` and that are faults, and the bytes of all
+/// answers, with a newline each.
 #[derive(Drop)]
 struct Counts {
     fit: u64,
@@ -206,7 +206,7 @@ impl Model for Counts {
 }
 
 impl Counts {
-    /// The counts of no answer.
+    /// Returns the counts of no answers.
     fn new() -> Counts
         ensures { result ≡ tally_of [] }
     {
@@ -239,7 +239,7 @@ impl Counts {
     }
 }
 
-/// Answers the first generated lines, and counts their answers.
+/// Answers the first `count` generated lines and counts their answers.
 fn count_answers<L: Ledger>(count: u64, steps: &mut Steps<L>) -> Counts
     requires { count ≤ 1000000 }
     ensures tally { IsTally count result }
@@ -265,7 +265,7 @@ fn push_count(text: &mut Text, number: u64, words: &str)
     push_part(text, words);
 }
 
-/// The summary line, with its newline.
+/// Returns the summary line, with its newline.
 #[tactic(auto, unfolding(crate::specs::SelfMode::summary_text))]
 fn summary(count: u64, counts: &Counts) -> Text
     requires count { count ≤ 1000000 }
@@ -281,10 +281,10 @@ fn summary(count: u64, counts: &Counts) -> Text
     text
 }
 
-/// Answers that many generated lines, at most 1,000,000, and writes the summary line.
+/// Answers `count` generated lines, at most 1,000,000, and writes the summary line.
 ///
-/// It reads nothing, writes nothing else and takes no memory. It ends in `Done` where no answer is a fault, in `Faults`
-/// where one is, and in `WriteFault` where a write failed.
+/// It reads nothing, writes nothing else and takes no memory. It returns `Done` if no answer is a fault, `Faults` if
+/// one is, and `WriteFault` if a write failed.
 pub(crate) fn run_self<K: Sink, L: Ledger>(count: u64, sink: &mut K, steps: &mut Steps<L>) -> Status
     requires most { count ≤ 1000000 }
     ensures run { HasSelfRun count (K.written sink.old) (K.written sink.new) (K.failures sink.old)

@@ -5,10 +5,10 @@ ghost use Rattle.fixed_respell.specs.Split.{IsSplit, count_of};
 
 use std::simd::prelude::*;
 
-/// How many bytes are compared together: nearly every word of a line is shorter.
+/// The number of bytes compared together. Nearly every field of a line is shorter.
 const LANES: usize = 16;
 
-/// The place of the first `wanted` among the first 16 bytes; 16 where none of them is.
+/// Returns the index of the first `wanted` among the first 16 bytes, or 16 if there is none.
 #[inline(always)]
 fn first_place(bytes: &[u8], wanted: u8) -> usize
     requires { LANES ≤ length bytes.now }
@@ -26,7 +26,7 @@ fn first_place(bytes: &[u8], wanted: u8) -> usize
     }
 }
 
-/// The bytes before the first `wanted`, and those after it. None where there is none.
+/// Returns the bytes before and after the first `wanted`. `None`: there is none.
 #[inline(never)]
 pub fn split_once(bytes: &[u8], wanted: u8) -> Option<(&[u8], &[u8])>
     ensures { MatchOption result (count_of wanted bytes.now ≡ 0) (λ r. IsSplit wanted bytes.now r.0.now r.1.now) }

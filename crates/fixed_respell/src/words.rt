@@ -1,4 +1,4 @@
-//! The words of a line: radix, format, policy and mode.
+//! The fields of a line: radix, format, policy and mode.
 
 ghost use Rattle.std.specs.Prelude.{◌≡◌, ◌↔◌, ◌≤◌, ◌≤ℤ◌, ◌+◌, ◌/◌, ◌%◌, ◌++◌, length, Bool, IsTrue, MatchOption};
 ghost use Rattle.std.specs.Prelude.{decimal, neg_ℤ, pos};
@@ -7,21 +7,21 @@ ghost use Rattle.fixed_bits.specs.Formats.{FormatParts, IsTypeFormat};
 ghost use Rattle.fixed_bits.specs.declared.format.Policy.{Policy};
 ghost use Rattle.fixed_bits.specs.declared.mode.ReadMode.{ReadMode};
 ghost use Rattle.fixed_numeral.specs.declared.radix.Radix.{Radix};
-ghost use Rattle.fixed_respell.specs.Inner.Places.{HasBytes, IsBothNames, policy_of_place, radix_of_place};
+ghost use Rattle.fixed_respell.specs.Inner.Places.{HasBytes, HasEnds, IsBothNames, mode_of_place};
+ghost use Rattle.fixed_respell.specs.Inner.Places.{policy_of_place, radix_of_place};
 ghost use Rattle.fixed_respell.specs.FormatNames.{IsFormatName};
 ghost use Rattle.fixed_respell.specs.Words.{IsFormatWord, IsPolicyWord, format_text};
 ghost use Rattle.fixed_respell.specs.Words.{IsLinePolicy, IsModeWord, radix_text};
 ghost use Rattle.fixed_respell.specs.Words.{sign_letter};
 
 use crate::format_table::{counts_of_key, four_bytes, key_of};
-use crate::split::split_once;
 use arrayvec::ArrayVec;
 use fixed_bits::{Format, Policy, ReadMode};
 use fixed_numeral::Radix;
 use itoa::Buffer;
 use std::marker::Model;
 
-/// The keys of the radix words, each at the place that its last byte names: its first byte, 256 times its last, and
+/// The keys of the radix words, each at the index that its last byte names: its first byte, 256 times its last, and
 /// 65536 times the count of its bytes.
 const RADIX_KEYS: [u64; 8] = [
     0x0002_3031,
@@ -34,7 +34,7 @@ const RADIX_KEYS: [u64; 8] = [
     0,
 ];
 
-/// The place of the radix word whose last byte this is.
+/// Returns the index of the radix word with this last byte.
 #[inline(always)]
 fn radix_place(last: u8) -> usize
     ensures { result ≡ last / 2 % 8 }
@@ -42,7 +42,7 @@ fn radix_place(last: u8) -> usize
     usize::from(last / 2 % 8)
 }
 
-/// The radix of the word at a place.
+/// Returns the radix of the word at an index.
 #[inline(always)]
 fn radix_at(place: usize) -> Radix
     ensures { result ≡ radix_of_place place }
@@ -55,8 +55,8 @@ fn radix_at(place: usize) -> Radix
     }
 }
 
-/// The radix that a word names. None where it names none.
-// By a table, since a branch on which radix it is would be mispredicted.
+/// Returns the radix that a word names. `None`: it does not name a radix.
+// By a table, since a branch on the radix would be mispredicted.
 #[inline(always)]
 pub fn radix_word(word: &[u8]) -> Option<Radix>
     ensures { MatchOption result ((r : Radix) → ¬ (word.now ≡ radix_text r)) (λ r. word.now ≡ radix_text r) }
@@ -74,11 +74,11 @@ pub fn radix_word(word: &[u8]) -> Option<Radix>
     }
 }
 
-/// The count of the bytes of each policy's name, at the place that is the count's rest by four.
+/// The length of each policy's name, at the index that is the length modulo four.
 const NAME_COUNTS: [usize; 4] = [8, 0, 10, 7];
 
-/// The first four bytes of each policy's name at its place, as a number, the first of them in the lowest place: `wrap`,
-/// none, `satu` and `chec`.
+/// The first four bytes of each policy's name at its index, as a number, with the first byte lowest: `wrap`, none,
+/// `satu` and `chec`.
 const NAME_STARTS: [u64; 4] = [0x7061_7277, 0, 0x7574_6173, 0x6365_6863];
 
 /// The two bytes after those: `pi`, none, `ra` and `ke`.
@@ -87,7 +87,7 @@ const NAME_MIDDLES: [u64; 4] = [0x6970, 0, 0x6172, 0x656b];
 /// The last four bytes: `ping`, none, `ting` and `cked`.
 const NAME_ENDS: [u64; 4] = [0x676e_6970, 0, 0x676e_6974, 0x6465_6b63];
 
-/// The policy whose name is at a place.
+/// Returns the policy whose name is at an index.
 #[inline(always)]
 fn policy_at(place: usize) -> Policy
     ensures { result ≡ policy_of_place place }
@@ -110,8 +110,8 @@ fn has_bytes(name: &[u8], start: u64, middle: u64, end: u64) -> bool
         && four_bytes(name, name.len() - 4) == end
 }
 
-/// The policy of this name, one of the three that a line can name.
-// By a table, since a branch on which policy it is would be mispredicted.
+/// Returns the policy of a name, one of the three that a line can name.
+// By a table, since a branch on the policy would be mispredicted.
 #[inline(always)]
 fn named_policy(name: &[u8]) -> Option<Policy>
     ensures { MatchOption result ((p : Policy) → ¬ IsLinePolicy name.now p) (λ p. IsLinePolicy name.now p) }
@@ -132,38 +132,84 @@ fn named_policy(name: &[u8]) -> Option<Policy>
     }
 }
 
-/// The mode of this name, one of the four that a line can name.
-fn named_mode(name: &[u8]) -> Option<ReadMode>
-    ensures { MatchOption result ((m : ReadMode) → ¬ IsModeWord name.now m) (λ m. IsModeWord name.now m) }
+/// The length of each mode's name, at the index that the name's first byte gives.
+const MODE_COUNTS: [usize; 4] = [4, 5, 4, 7];
+
+/// The first four bytes of each mode's name at its index, as a number: `ceil`, `floo`, `zero` and `near`.
+const MODE_STARTS: [u64; 4] = [0x6c69_6563, 0x6f6f_6c66, 0x6f72_657a, 0x7261_656e];
+
+/// The last four bytes: `ceil`, `loor`, `zero` and `rest`.
+const MODE_ENDS: [u64; 4] = [0x6c69_6563, 0x726f_6f6c, 0x6f72_657a, 0x7473_6572];
+
+/// Returns the mode whose name is at an index.
+#[inline(always)]
+fn mode_at(place: usize) -> ReadMode
+    ensures { result ≡ mode_of_place place }
 {
-    match name {
-        b"nearest" => Some(ReadMode::NearestEven),
-        b"floor" => Some(ReadMode::Floor),
-        b"ceil" => Some(ReadMode::Ceil),
-        b"zero" => Some(ReadMode::TowardsZero),
-        _ => None,
+    match place {
+        0 => ReadMode::Ceil,
+        1 => ReadMode::Floor,
+        2 => ReadMode::TowardsZero,
+        _ => ReadMode::NearestEven,
     }
 }
 
-/// The policy and the mode of a word that is both their names, with a slash between them. None where it is no such
+/// Whether a name has these first four bytes, and these last four.
+#[inline(always)]
+fn has_ends(name: &[u8], start: u64, end: u64) -> bool
+    requires { 4 ≤ length name.now }
+    ensures { IsTrue result ↔ HasEnds name.now start end }
+{
+    four_bytes(name, 0) == start && four_bytes(name, name.len() - 4) == end
+}
+
+/// Returns the mode of this name, one of the four that a line can name.
+// A call: inlined, it costs each line without a mode two instructions, which clear room for the answer.
+#[inline(never)]
+fn named_mode(name: &[u8]) -> Option<ReadMode>
+    ensures { MatchOption result ((m : ReadMode) → ¬ IsModeWord name.now m) (λ m. IsModeWord name.now m) }
+{
+    if name.len() < 4 {
+        return None;
+    }
+    let place = usize::from(name[0] / 4 % 4);
+    if name.len() != MODE_COUNTS[place] {
+        return None;
+    }
+    if has_ends(name, MODE_STARTS[place], MODE_ENDS[place]) {
+        Some(mode_at(place))
+    } else {
+        None
+    }
+}
+
+/// The length of a policy's name, by a number from its first byte: `checked`, `saturating` and `wrapping`.
+const COUNTS_BY_FIRST: [usize; 8] = [7, 0, 0, 0, 10, 8, 0, 0];
+
+/// Returns the policy and the mode of a word of both their names with a slash between them. `None`: it is not such a
 /// word.
-// A call, since few lines have such a word.
+// The first byte determines the index of the slash, because a search for it is mispredicted. A call, because few lines
+// have such a word.
 #[inline(never)]
 fn policy_and_mode(word: &[u8]) -> Option<(Policy, ReadMode)>
     ensures { MatchOption result ((p : Policy) (m : ReadMode) → ¬ IsBothNames word.now p m)
         (λ r. IsBothNames word.now r.0 r.1) }
 {
-    match split_once(word, b'/') {
-        None => None,
-        Some((policy, mode)) => match (named_policy(policy), named_mode(mode)) {
-            (Some(policy), Some(mode)) => Some((policy, mode)),
-            _ => None,
-        },
+    if word.is_empty() {
+        return None;
+    }
+    let count = COUNTS_BY_FIRST[usize::from(word[0] / 4 % 8)];
+    if word.len() <= count || word[count] != b'/' {
+        return None;
+    }
+    match (named_policy(&word[..count]), named_mode(&word[count + 1..])) {
+        (Some(policy), Some(mode)) => Some((policy, mode)),
+        _ => None,
     }
 }
 
-/// The policy and the mode that a word names: NearestEven where it names no mode. None where it is no policy word.
-// In line, since each line has one.
+/// Returns the policy and the mode that a word names: NearestEven if it names no mode. `None`: it is not a policy word.
+// Inlined, since each line has one.
 #[inline(always)]
 pub fn policy_word(word: &[u8]) -> Option<(Policy, ReadMode)>
     ensures { MatchOption result ((p : Policy) (m : ReadMode) → ¬ IsPolicyWord word.now p m)
@@ -175,7 +221,7 @@ pub fn policy_word(word: &[u8]) -> Option<(Policy, ReadMode)>
     }
 }
 
-/// Whether a format whose word begins with this letter is signed. None where no format's word begins with it.
+/// Returns whether a format whose word begins with this letter is signed. `None`: no format's word begins with it.
 #[inline(always)]
 fn named_sign(letter: u8) -> Option<bool>
     ensures { MatchOption result ((s : Bool) → ¬ (letter ≡ sign_letter s)) (λ s. letter ≡ sign_letter s) }
@@ -188,8 +234,8 @@ fn named_sign(letter: u8) -> Option<bool>
     }
 }
 
-/// The format that a word names. None where it names none.
-// In line, with what it calls, since each line has two: an answer of a call would go through memory.
+/// Returns the format that a word names. `None`: it does not name a format.
+// Inlined with what it calls, since each line has two: the result of a call would go through memory.
 #[inline(always)]
 pub fn format_word(word: &[u8]) -> Option<Format>
     ensures { MatchOption result ((f : FormatParts) → ¬ IsFormatWord word.now f) (λ f. IsFormatWord word.now f) }
@@ -218,7 +264,7 @@ impl Model for FormatName {
 }
 
 impl FormatName {
-    /// The bytes of the word.
+    /// Returns the bytes of the word.
     pub fn as_bytes(&self) -> &[u8]
         ensures bytes { result.now ≡ self.now }
         ensures short { length result.now ≤ 8 }
@@ -240,7 +286,7 @@ fn push_count(bytes: &mut ArrayVec<u8, 8>, count: u32)
         .unwrap();
 }
 
-/// Appends a count of whole bits, with a minus where it is below zero.
+/// Appends a count of whole bits, with a minus if it is below zero.
 fn push_whole(bytes: &mut ArrayVec<u8, 8>, whole: i32)
     requires least { neg_ℤ (pos 64) ≤ℤ whole }
     requires most { whole ≤ℤ pos 64 }
@@ -254,7 +300,7 @@ fn push_whole(bytes: &mut ArrayVec<u8, 8>, whole: i32)
     push_count(bytes, whole.unsigned_abs());
 }
 
-/// The word of a format, of any width and fraction length.
+/// Returns the word of a format, of any width and fraction length.
 pub fn format_name(format: Format) -> FormatName
     ensures text { result ≡ format_text format }
     ensures name { IsFormatName result format }

@@ -1,4 +1,4 @@
--- A text is answered with one block.
+-- A text has just one block.
 use Rattle.std.proofs.Common.{◌≡◌, ◌∙◌, ◌↔◌, ℕ, ℤ, List, Bool, IsTrue, true, false, pos, ap, inl, inr, refl, sym, subst}
 use Rattle.std.proofs.lemmas.Bool.{false≢true}
 use Rattle.std.specs.Prelude.{unsigned_abs}
@@ -63,14 +63,14 @@ bits_object_one bare f text o p a b width x y =
     let same = bits_facts_one Members bare f text o p x.members y.members width x.are_facts y.are_facts in
     (same.0, x.object_is ∙ ap (object_text text) same.1 ∙ sym y.object_is)
 
--- ---- a numeral that is refused
-unread_one : (mode : ReadMode) (r : Radix) (bytes : List ℕ) (f : FormatParts) (policy : Policy) (k l : ParseErrorKind) → IsUnread mode r bytes f policy k → IsUnread mode r bytes f policy l → k ≡ l
+-- ---- a refused numeral
+pub unread_one : (mode : ReadMode) (r : Radix) (bytes : List ℕ) (f : FormatParts) (policy : Policy) (k l : ParseErrorKind) → IsUnread mode r bytes f policy k → IsUnread mode r bytes f policy l → k ≡ l
 unread_one mode r bytes f policy k l (inl a) (inl b) = one_cause r bytes k l a b
 unread_one mode r bytes f policy k l (inl a) (inr b) = absurd (a.none (b.2.parts, b.2.has))
 unread_one mode r bytes f policy k l (inr a) (inl b) = absurd (b.none (a.2.parts, a.2.has))
 unread_one mode r bytes f policy k l (inr a) (inr b) = a.0 ∙ sym b.0
 
-read_or_not : (mode : ReadMode) (r : Radix) (bytes : List ℕ) (f : FormatParts) (policy : Policy) (v : ℤ) (o : Bool) (k : ParseErrorKind) → IsReadAs mode r bytes f policy v o → IsUnread mode r bytes f policy k → ⊥
+pub read_or_not : (mode : ReadMode) (r : Radix) (bytes : List ℕ) (f : FormatParts) (policy : Policy) (v : ℤ) (o : Bool) (k : ParseErrorKind) → IsReadAs mode r bytes f policy v o → IsUnread mode r bytes f policy k → ⊥
 read_or_not mode r bytes f policy v o k a (inl b) = b.none (a.parts, a.numeral)
 read_or_not mode r bytes f policy v o k a (inr b) =
     let p : a.parts ≡ b.2.parts = parts_unique r bytes a.parts b.2.parts a.numeral.beginning b.2.has.beginning in
@@ -78,8 +78,8 @@ read_or_not mode r bytes f policy v o k a (inr b) =
     let image : IsImage Checked f.signed f.width a.number v = subst (λ (q : Policy). IsImage q f.signed f.width a.number v) b.1 a.image in
     has_none f.signed f.width b.2.number v b.2.out_of_range (subst (λ (x : ℤ). IsImage Checked f.signed f.width x v) n image)
 
--- ---- a numeral that is shown
-same_parts : (r : Radix) (bytes : List ℕ) (p q : Parts) → HasNumeral r bytes p → HasNumeral r bytes q → p ≡ q
+-- ---- a shown numeral
+pub same_parts : (r : Radix) (bytes : List ℕ) (p q : Parts) → HasNumeral r bytes p → HasNumeral r bytes q → p ≡ q
 same_parts r bytes p q a b = parts_unique r bytes p q a.beginning b.beginning
 
 flag_one : (Out : ℤ → Type 0) (v w : ℤ) (o p : Bool) → v ≡ w → (IsTrue o ↔ Out v) → (IsTrue p ↔ Out w) → o ≡ p
@@ -88,7 +88,7 @@ flag_one Out v w false false e x y = refl
 flag_one Out v w true false e x y = absurd (false≢true (y.1 (subst Out e (x.0 refl))))
 flag_one Out v w false true e x y = absurd (false≢true (x.1 (subst Out (sym e) (y.0 refl))))
 
-read_as_one : (mode : ReadMode) (r : Radix) (bytes : List ℕ) (f : FormatParts) (policy : Policy) (v w : ℤ) (o p : Bool) → IsWidth f.width → IsReadAs mode r bytes f policy v o → IsReadAs mode r bytes f policy w p → (v ≡ w) × (o ≡ p)
+pub read_as_one : (mode : ReadMode) (r : Radix) (bytes : List ℕ) (f : FormatParts) (policy : Policy) (v w : ℤ) (o p : Bool) → IsWidth f.width → IsReadAs mode r bytes f policy v o → IsReadAs mode r bytes f policy w p → (v ≡ w) × (o ≡ p)
 read_as_one mode r bytes f policy v w o p width x y =
     let parts : x.parts ≡ y.parts = same_parts r bytes x.parts y.parts x.numeral y.numeral in
     let number : x.number ≡ y.number = read_unique mode r y.parts f.frac x.number y.number (subst (λ (q : Parts). IsReadNumber mode r q f.frac x.number) parts x.read) y.read in (
@@ -134,11 +134,11 @@ show_object_one mode r bytes f policy o p a b width x y =
     let same = show_facts_one Members mode r bytes f policy o p x.members y.members width x.are_facts y.are_facts in
     (same.0, x.object_is ∙ ap (object_text bytes) same.1 ∙ sym y.object_is)
 
--- a numeral that is shown is not refused
+-- a numeral is not both refused and shown
 pub show_facts_apart : (form : Form) (mode : ReadMode) (r : Radix) (bytes : List ℕ) (f : FormatParts) (policy : Policy) (a b : List ℕ) → AreShowFacts form mode r bytes f policy true a → AreShowFacts form mode r bytes f policy false b → ⊥
 show_facts_apart form mode r bytes f policy a b x y = read_or_not mode r bytes f policy y.bits y.overflowed x.kind y.read x.unread
 
--- a refusal needs no width
+-- a refusal is unique for any width
 pub refusal_one : ShowRefusalIsTheOne
 refusal_one mode r bytes f policy true a b x y = (refl, x.facts_are ∙ ap (λ k. refusal Lines (message_of k)) (unread_one mode r bytes f policy x.kind y.kind x.unread y.unread) ∙ sym y.facts_are)
 refusal_one mode r bytes f policy false a b x y = absurd (read_or_not mode r bytes f policy y.bits y.overflowed x.kind y.read x.unread)

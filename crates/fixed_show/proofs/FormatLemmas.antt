@@ -1,4 +1,4 @@
--- How many digits survive.
+-- The number of digits that survive.
 use Rattle.std.proofs.Common.{◌≡◌, ◌⊎◌, inl, inr, ⊎_elim, ℕ, ◌+◌, ◌-◌, ◌*◌, ◌/◌, ◌^◌, ◌<◌, ◌≤◌, Bool, true, false, ap, sym, ◌∙◌, arith, pos, ◌≤ℤ◌, mul-le-mul_right, pow_pos}
 use Rattle.std.proofs.lemmas.Nat.{pow-add}
 use Rattle.std.proofs.Math.Nat.{one-le-pow}
@@ -8,7 +8,7 @@ use Rattle.fixed_bits.specs.Nearest.{distance}
 use Rattle.fixed_bits.specs.Ranges.{greatest}
 use Rattle.fixed_show.specs.FormatBlock.{AreWholeDigits, PlacesSurvive}
 
--- two decimals, in units d of their last digit, that are both nearest to c units are the same where d is at most an ulp u
+-- two decimals x / d and y / d within half of 1 / u of c / u are equal if d is at most u
 not_less : (x y c u d : ℕ) → 0 < d → d ≤ u → 2 * distance (x * u) (c * d) ≤ d → 2 * distance (y * u) (c * d) ≤ d → x < y → ⊥
 not_less x y c u d some h p q l =
     let s : (x + 1) * u ≤ y * u = mul-le-mul_right u (omega arith) in
@@ -46,7 +46,7 @@ survive f k h n c m j r s =
     let e : n ≡ m * 10 ^ (k - j) = same_decimal n (m * 10 ^ (k - j)) c (2 ^ f) (10 ^ k) some h.apart r.near more in
     ap (λ t. m * t) power ∙ omega arith ∙ ap (λ t. t * 10 ^ j) (sym e)
 
--- the whole digits
+-- the number of whole digits
 pub whole_digits_are : (top q f w : ℕ) → q ≡ top / 2 ^ f → 10 ^ w ≤ q + 1 → q + 1 < 10 ^ (w + 1) → AreWholeDigits (pos top) f w
 whole_digits_are top q f w e low high =
     let some : 0 < 2 ^ f = pow_pos f in

@@ -1,13 +1,11 @@
--- Texts and objects of JSON.
-use Rattle.std.proofs.Common.{◌≡◌, ℕ, add-one, ◌+◌, ◌<◌, ◌≤◌, List, [], ◌∷◌, ◌++◌, length, take, take_all, get_or, ap, ◌∙◌, sym, refl, arith, append_assoc, codes, Bool, true, false, ◌⊎◌, inl, inr, ◌/◌, ◌%◌, nat_lt}
+-- JSON texts and objects.
+use Rattle.std.proofs.Common.{◌≡◌, ℕ, ◌+◌, ◌<◌, ◌≤◌, List, [], ◌∷◌, ◌++◌, length, take, take_all, ap, ◌∙◌, sym, refl, arith, append_assoc, codes, Bool, true, false, ◌⊎◌, inl, inr, ◌/◌, ◌%◌, nat_lt}
 use Rattle.std.specs.Prelude.{flat_map, ◌==◌, ◌&&◌, ◌||◌, nat_le, if◌then◌else◌}
 use Rattle.std.specs.Fmt.{digit_glyph}
 use Rattle.std.specs.Int.Digits.{AllBelowBase}
 use Rattle.std.proofs.lemmas.Bool.Decides.{nat_tests}
 use Rattle.fixed_write.specs.Texts.{last_digits}
 use Rattle.fixed_write.proofs.Public.{last_digits_none, last_digits_suc}
-use Rattle.std.proofs.Math.Seq.{take-suc}
-use Rattle.std.proofs.lemmas.List.{flat_map_more}
 use Rattle.fixed_bits.specs.Formats.{FormatParts}
 use Rattle.fixed_bits.specs.declared.format.Policy.{Policy}
 use Rattle.fixed_bits.specs.declared.mode.ReadMode.{ReadMode}
@@ -21,12 +19,6 @@ use Rattle.fixed_show.specs.declared.form.Form.TheVariants.{Members}
 use Rattle.fixed_show.specs.JsonText.{JsonTextIsOneToOne, json_byte, json_text, object_text}
 use Rattle.fixed_show.proofs.LineLemmas.{pushed_length, text_short}
 
--- the bytes of a text, one by one
-pub byte_more : (old mid new bs : List ℕ) (i : ℕ) → i < length bs → mid ≡ old ++ flat_map json_byte (take i bs) → new ≡ mid ++ json_byte (get_or bs i 0) → new ≡ old ++ flat_map json_byte (take (i + 1) bs)
-byte_more old mid new bs i h e f =
-    let t : take i bs ++ get_or bs i 0 ∷ [] ≡ take (i + 1) bs = sym (take-suc bs i 0 h) ∙ ap (λ n. take n bs) (sym (add-one i)) in
-    f ∙ ap (λ x. x ++ json_byte (get_or bs i 0)) e ∙ flat_map_more json_byte old (take i bs) (get_or bs i 0) ∙ ap (λ x. old ++ flat_map json_byte x) t
-
 pub text_pushed : (old a b c bs : List ℕ) (i : ℕ) → length bs ≤ i → a ≡ old ++ 34 ∷ [] → b ≡ a ++ flat_map json_byte (take i bs) → c ≡ b ++ 34 ∷ [] → c ≡ old ++ json_text bs
 unfolding json_text
 text_pushed old a b c bs i h p q r =
@@ -34,7 +26,6 @@ text_pushed old a b c bs i h p q r =
     let x : c ≡ ((old ++ 34 ∷ []) ++ flat_map json_byte (take i bs)) ++ 34 ∷ [] = cc in
     x ∙ ap (λ t. ((old ++ 34 ∷ []) ++ flat_map json_byte t) ++ 34 ∷ []) all ∙ append_assoc (old ++ 34 ∷ []) (flat_map json_byte bs) (34 ∷ []) ∙ append_assoc old (34 ∷ []) (flat_map json_byte bs ++ 34 ∷ [])
 
--- an object
 pub object_pushed : (old a b c bytes members : List ℕ) → a ≡ old ++ (codes "{\"given\":" ++ json_text (take 768 bytes)) → b ≡ a ++ members → c ≡ b ++ 125 ∷ [] → c ≡ old ++ object_text bytes members
 unfolding object_text
 object_pushed old a b c bytes members p q r =
@@ -73,7 +64,7 @@ refused_facts mode r bytes f policy kind message a b unread m e s =
       short = text_short a b (refusal Members (message_of kind)) 3301 appended (omega (arith, s));
     }
 
--- ---- a text of JSON has one meaning
+-- ---- a JSON text has one meaning
 two_digits : (b : ℕ) → last_digits 16 false 2 b ≡ digit_glyph false (b / 16 % 16) ∷ digit_glyph false (b % 16) ∷ []
 two_digits b =
     last_digits_suc 16 false 1 b ∙ ap (λ t. t ++ digit_glyph false (b % 16) ∷ []) (last_digits_suc 16 false 0 (b / 16) ∙ ap (λ t. t ++ digit_glyph false (b / 16 % 16) ∷ []) (last_digits_none 16 false (b / 16 / 16)))
@@ -89,7 +80,7 @@ abbrev pub tail_of : List ℕ → List ℕ
 tail_of [] = []
 tail_of (x ∷ xs) = xs
 
--- how a byte is written
+-- an escaped byte
 record IsEscaped (b : ℕ) : Type 0 where
   which : (b ≡ 34) ⊎ (b ≡ 92)
   is : json_byte b ≡ 92 ∷ b ∷ []

@@ -16,9 +16,12 @@ pub mod BoundedLemmas
 pub mod UlpsLemmas
 pub mod ShownErrorLemmas
 pub mod ShortLemmas
+pub mod DecimalErrorLemmas
 pub mod JsonLemmas
 pub mod WordLawLemmas
 pub mod ToolNameLemmas
 pub mod BlockLawLemmas
+pub mod NarrowLemmas
+pub mod MeasureLemmas
 pub mod PartLemmas
 pub mod Public

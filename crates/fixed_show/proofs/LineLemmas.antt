@@ -1,4 +1,4 @@
--- Lines that are appended part by part.
+-- Lines appended part by part.
 use Rattle.std.proofs.Common.{◌≡◌, ℕ, ◌+◌, ◌≤◌, List, [], ◌∷◌, ◌++◌, length, take, ◌-◌, codes, ap, sym, ◌∙◌, arith, append_assoc, length-append}
 use Rattle.std.proofs.Common.{ℤ}
 use Rattle.std.specs.Fmt.{signed_decimal}
@@ -14,11 +14,7 @@ line_pushed old a b c label text p q r =
     let e : c ≡ ((old ++ label) ++ text) ++ 10 ∷ [] = cc in
     e ∙ simp append_assoc
 
-pub line_length : (label text : List ℕ) → length (line label text) ≡ length label + (length text + 1)
-unfolding line
-line_length label text = omega (arith, length-append label (text ++ 10 ∷ []), length-append text (10 ∷ []))
-
--- what stands before a fact
+-- the label before a fact
 pub line_label : (form : Form) (old a b key : List ℕ) → form ≡ Lines → a ≡ old ++ key → b ≡ a ++ take (10 - length key) (codes "          ") → b ≡ old ++ label form key
 unfolding label
 line_label form old a b key e p q =
@@ -31,7 +27,6 @@ key_label form old a b c key e p q r =
     let x : c ≡ ((old ++ codes ",\"") ++ key) ++ codes "\":\"" = cc in
     x ∙ append_assoc (old ++ codes ",\"") key (codes "\":\"") ∙ append_assoc old (codes ",\"") (key ++ codes "\":\"") ∙ ap (λ t. old ++ label t key) (sym e)
 
--- a fact
 pub fact_pushed : (form : Form) (old a b c key text : List ℕ) (e : ℕ) → a ≡ old ++ label form key → b ≡ a ++ text → e ≡ end_byte form → c ≡ b ++ e ∷ [] → c ≡ old ++ fact form key text
 unfolding fact
 fact_pushed form old a b c key text e p q r s =
@@ -55,7 +50,6 @@ four_pushed old o1 o2 o3 o4 o5 o6 l a b c d p q r s t u =
 pub pushed_length : (old new t : List ℕ) (n : ℕ) → new ≡ old ++ t → length t ≤ n → length new ≤ length old + n
 pushed_length old new t n e h = omega (arith, ap length e, length-append old t)
 
--- a block of four lines
 pub four_lines : (old o1 o2 o3 o4 a b c d : List ℕ) → o1 ≡ old ++ a → o2 ≡ o1 ++ b → o3 ≡ o2 ++ c → o4 ≡ o3 ++ d → o4 ≡ old ++ (a ++ (b ++ (c ++ d)))
 four_lines old o1 o2 o3 o4 a b c d p q r s =
     let e : o4 ≡ ((((old ++ a) ++ b) ++ c) ++ d) = cc in
@@ -74,7 +68,6 @@ pair_pushed form old o1 o2 o3 o4 o5 o6 o7 key head first mark second tail e p q 
     let x : o7 ≡ ((((((old ++ label form key) ++ head) ++ signed_decimal first) ++ mark) ++ signed_decimal second) ++ tail) ++ end_byte form ∷ [] = cc in
     x ∙ simp append_assoc
 
--- a block of seven parts
 pub seven_lines : (old o1 o2 o3 o4 o5 o6 o7 a b c d f g h : List ℕ) → o1 ≡ old ++ a → o2 ≡ o1 ++ b → o3 ≡ o2 ++ c → o4 ≡ o3 ++ d → o5 ≡ o4 ++ f → o6 ≡ o5 ++ g → o7 ≡ o6 ++ h → o7 ≡ old ++ (a ++ (b ++ (c ++ (d ++ (f ++ (g ++ h))))))
 seven_lines old o1 o2 o3 o4 o5 o6 o7 a b c d f g h p q r s t u v =
     let e : o7 ≡ (((((((old ++ a) ++ b) ++ c) ++ d) ++ f) ++ g) ++ h) = cc in

@@ -1,4 +1,4 @@
--- Parts of words: a text has one, or one fault; bytes in reverse.
+-- A text has just one part or one fault, and bytes reversed twice are the same.
 use Rattle.std.proofs.Common.{◌≡◌, ◌∙◌, ℕ, zero, suc, ◌+◌, ◌-◌, ◌*◌, ◌/◌, ◌%◌, ◌^◌, ◌<◌, ◌≤◌, ℤ, pos, List, [], ◌∷◌, Bool, Option, Some, None, true, false, length, refl, sym, ap, subst, arith, inl, true≢false, mod-eq_of_lt, get_or, take, length-append}
 use Rattle.std.proofs.Math.Nat.{div-eq_of_lt, mul-le-mul_left, mul-le-mul_right, one-le-pow, pow-le-pow_right, pow-succ', pow-zero}
 use Rattle.std.proofs.lemmas.Int.{ints}
@@ -25,7 +25,7 @@ use Rattle.fixed_show.proofs.BlockLawLemmas.{values_one}
 use Rattle.fixed_show.proofs.WordLawLemmas.{fault_one, no_fault}
 use Rattle.fixed_show.proofs.WordLemmas.{without_more_other}
 
--- ---- one word, one order, one field
+-- ---- a text has one word, one order and one field
 word_same : (bare : Radix) (text : List ℕ) (a b : ℕ) → IsLongWord bare text a → IsLongWord bare text b → a ≡ b
 word_same bare text a b x y = x.spells.number ∙ sym y.spells.number
 
@@ -52,7 +52,7 @@ part_one bare part f text v w width x y =
     let bits : x.bits ≡ y.bits = bits_one part.low f.width y.ordered x.bits y.bits (subst (λ n. AreBits part.low f.width n x.bits) ordered x.are_bits) y.are_bits in
     image_one Wrapping f.signed f.width (pos y.bits) v w width (subst (λ n. IsWrapped f.signed f.width (pos n) v) bits x.is) y.is
 
--- ---- one fault
+-- ---- a text has one fault
 both : (b : Bool) → b ≡ false → b ≡ true → ⊥
 both b off on = absurd (true≢false (sym on ∙ off))
 
@@ -91,7 +91,7 @@ part_no_fault bare part f text TooWide v x y =
     let ordered : y.ordered ≡ x.ordered = ordered_one part.is_reversed bare text (reach_of part f) x.word y.ordered x.ordered (moved_word bare part f text y.word x.word y.ordered y.is_word x.is_word y.is_ordered) x.is_ordered in
     x.none y.bits (subst (λ n. AreBits part.low f.width n y.bits) ordered y.are_bits)
 
--- ---- one block
+-- ---- a text has one block
 part_facts_one : (form : Form) (bare : Radix) (part : Part) (f : FormatParts) (text : List ℕ) (o p : Bool) (a b : List ℕ) → IsWidth f.width → ArePartFacts form bare part f text o a → ArePartFacts form bare part f text p b → (o ≡ p) × (a ≡ b)
 part_facts_one form bare part f text true true a b width x y =
     (refl, x.facts_are ∙ ap (λ w. refusal form (part_message w)) (part_fault_one bare part f text x.fault y.fault x.is_fault y.is_fault) ∙ sym y.facts_are)
@@ -178,7 +178,7 @@ more_up a c = ap (λ t. a * t) (pow-succ' 256 c) ∙ by_parts a (256 ^ c)
     by_parts : (x t : ℕ) → x * (256 * t) ≡ x * t * 256
     by_parts x t = omega arith
 
--- a byte above the others becomes the lowest
+-- the highest byte becomes the lowest one
 onto_top : (c a m : ℕ) → a < 256 → m < 256 ^ c → reversed_bytes (suc c) (a * 256 ^ c + m) ≡ reversed_bytes c m * 256 + a
 onto_top zero a m byte small =
     let none : m ≡ 0 = omega (arith, small) in
@@ -209,7 +209,7 @@ twice (suc c) n small =
     ∙ ap (λ k. k * 256 + n % 256) (twice c (n / 256) less) ∙ omega arith
 
 -- ---- steps of the code
--- a byte more
+-- one more byte
 step_is : (number rest c : ℕ) → (number * 256 + rest % 256) * 256 ^ c + reversed_bytes c (rest / 256) ≡ number * 256 ^ suc c + reversed_bytes (suc c) rest
 step_is number rest c = omega (arith, reversed_more c rest, more_up number c, apart number (rest % 256) (256 ^ c))
   where
@@ -220,12 +220,11 @@ pub one_byte_more : (number rest count : ℕ) → ¬ (count ≡ 0) → (number *
 one_byte_more number rest zero some = absurd (some refl)
 one_byte_more number rest (suc c) some = let e : suc c - 1 ≡ c = omega arith in rw e (step_is number rest c)
 
--- and no more
 pub no_byte_more : (number rest count : ℕ) → count ≡ 0 → number ≡ number * 256 ^ count + reversed_bytes count rest
 no_byte_more number rest zero none = omega (arith, reversed_none rest)
 no_byte_more number rest (suc c) none = absurd (omega (arith, none))
 
--- there is room for it
+-- there is room for the next byte
 less_room : (number rest c l : ℕ) → (number + 1) * 256 ^ suc c ≤ l → (number * 256 + rest % 256 + 1) * 256 ^ c ≤ l
 less_room number rest c l room =
     let most : (number * 256 + rest % 256 + 1) * 256 ^ c ≤ (number + 1) * 256 * 256 ^ c = mul-le-mul_right (256 ^ c) (let m : number * 256 + rest % 256 + 1 ≤ (number + 1) * 256 = omega arith in m) in
@@ -244,15 +243,14 @@ room_some number rest count l some room =
     let most : (number * 256 + rest % 256 + 1) * 1 ≤ (number * 256 + rest % 256 + 1) * 256 ^ (count - 1) = mul-le-mul_left (number * 256 + rest % 256 + 1) (some_power (count - 1)) in
     omega (arith, most, less)
 
--- 8 bytes are the most
+-- at most 8 bytes fit 64 bits
 pub room_for_bytes : (count : ℕ) → count ≤ 8 → 1 * 256 ^ count ≤ 18446744073709551616
 room_for_bytes count most = let p : 256 ^ count ≤ 256 ^ 8 = pow-le-pow_right {n = 256} (omega arith) {i = count} {j = 8} most in omega (arith, p)
 
--- a digit more
 pub one_digit_more : (bs : List ℕ) (i n : ℕ) → i < length bs → (get_or bs i 0 ≡ 95 → ⊥) → n ≡ length (without_underscores (take i bs)) → n + 1 ≡ length (without_underscores (take (i + 1) bs))
 one_digit_more bs i n h u e = omega (arith, e, ap length (without_more_other bs i h u), length-append (without_underscores (take i bs)) (get_or bs i 0 ∷ []))
 
--- a word has no bits above the 64th
+-- a word below 2^64 has only zeros from bit 64 on
 pub none_above : (word low m : ℕ) → word < 2 ^ 64 → 64 ≤ low → 0 ≡ word / 2 ^ low % m
 none_above word low m small high =
     let p : 2 ^ 64 ≤ 2 ^ low = pow-le-pow_right {n = 2} (omega arith) {i = 64} {j = low} high in

@@ -1,4 +1,4 @@
--- What the proofs of the crates above may cite: the laws of words and of blocks.
+-- Lemmas for the proofs of dependent crates: laws of words and of blocks.
 use Rattle.std.specs.Prelude.{ℕ, List, true, false}
 use Rattle.fixed_bits.specs.Formats.{FormatParts}
 use Rattle.fixed_bits.specs.declared.format.Policy.{Policy}
@@ -7,11 +7,15 @@ use Rattle.fixed_numeral.specs.declared.radix.Radix.{Radix}
 use Rattle.fixed_show.specs.ShowBlock.{AreShowFacts}
 use Rattle.fixed_show.specs.declared.form.Form.{Form}
 use Rattle.fixed_show.specs.BlockLaws.{BitsBlockIsTheOne, BitsObjectIsTheOne, ShowBlockIsTheOne, ShowObjectIsTheOne, ShowRefusalIsTheOne}
+use Rattle.fixed_show.specs.DecimalError.{DecimalErrorIsTheOne}
 use Rattle.fixed_show.specs.FormatBlock.{FormatBlockIsTheOne, FormatObjectIsTheOne}
+use Rattle.fixed_show.specs.Measured.{MeasuredErrorIsTheOne}
 use Rattle.fixed_show.specs.PartLaws.{PartBlockIsTheOne, PartFaultIsTheOne, PartHasNoFault, PartObjectIsTheOne}
 use Rattle.fixed_show.specs.WordLaws.{WordFaultIsTheOne, WordHasNoFault, WordIsTheOne}
 use Rattle.fixed_show.proofs.BlockLawLemmas
 use Rattle.fixed_show.proofs.BoundedLemmas
+use Rattle.fixed_show.proofs.DecimalErrorLemmas
+use Rattle.fixed_show.proofs.MeasureLemmas
 use Rattle.fixed_show.proofs.PartLemmas
 use Rattle.fixed_show.proofs.WordLawLemmas
 
@@ -59,3 +63,9 @@ part_object_one = PartLemmas.part_object_one
 
 pub show_facts_apart : (form : Form) (mode : ReadMode) (r : Radix) (bytes : List ℕ) (f : FormatParts) (policy : Policy) (a b : List ℕ) → AreShowFacts form mode r bytes f policy true a → AreShowFacts form mode r bytes f policy false b → ⊥
 show_facts_apart form mode r bytes f policy a b x y = BlockLawLemmas.show_facts_apart form mode r bytes f policy a b x y
+
+pub decimal_error_one : DecimalErrorIsTheOne
+decimal_error_one = DecimalErrorLemmas.decimal_error_one
+
+pub measured_error_one : MeasuredErrorIsTheOne
+measured_error_one = MeasureLemmas.measured_error_one

@@ -1,5 +1,5 @@
--- A numeral that was read into a format.
-use Rattle.std.proofs.Common.{◌≡◌, inl, inr, ◌↔◌, ℕ, List, [], ◌∷◌, ◌++◌, Bool, IsTrue, ℤ, subst, ap, ◌∙◌, append_assoc, codes}
+-- Numerals that were read into a format.
+use Rattle.std.proofs.Common.{◌≡◌, inl, inr, ◌↔◌, ◌⊎◌, false, ℕ, List, [], ◌∷◌, ◌++◌, Bool, IsTrue, ℤ, subst, sym, ap, ◌∙◌, append_assoc, codes}
 use Rattle.std.specs.Fmt.{signed_decimal}
 use Rattle.fixed_bits.specs.Formats.{FormatParts}
 use Rattle.fixed_bits.specs.Images.{IsImage, IsOutOfRangeBy}
@@ -13,7 +13,9 @@ use Rattle.fixed_numeral.specs.declared.error.ParseErrorKind.{ParseErrorKind}
 use Rattle.fixed_numeral.specs.declared.error.ParseErrorKind.TheVariants.{Overflow}
 use Rattle.fixed_numeral.specs.declared.radix.Radix.{Radix}
 use Rattle.fixed_bits.specs.Numbers.{IsNumber}
-use Rattle.fixed_read.specs.Reading.{IsReading, IsReadNumber, number_in}
+use Rattle.fixed_bits.specs.declared.number.Number.{Number}
+use Rattle.std.proofs.lemmas.Bool.{false≢true}
+use Rattle.fixed_read.specs.Reading.{IsReading, IsReadNumber, IsWholeUlps, number_in}
 use Rattle.fixed_read.specs.declared.read_number.ReadNumber.{ReadNumber}
 use Rattle.fixed_show.specs.Forms.{fact, label}
 use Rattle.fixed_show.specs.declared.form.Form.{Form}
@@ -34,6 +36,50 @@ read_as mode r bytes f policy p found bits flag numeral reading e image out = re
   image = subst (λ (t : FormatParts). IsImage policy t.signed t.width reading.number bits) e (image reading.number reading.holds);
   flag = subst (λ (t : FormatParts). IsTrue flag ↔ IsOutOfRangeBy policy t.signed t.width reading.number) e (out reading.number reading.holds);
 }
+
+-- `read_as` of the image of a number
+pub image_read_as : (mode : ReadMode) (r : Radix) (bytes : List ℕ) (f : FormatParts) (policy : Policy) (p : Parts) (found : ReadNumber) (number : Number) (bits : ℤ) (flag : Bool)
+    → HasNumeral r bytes p → IsReading mode r p found → found.format ≡ f → number ≡ number_in found
+    → ((v : ℤ) → IsNumber number v → IsImage policy f.signed f.width v bits)
+    → ((v : ℤ) → IsNumber number v → IsTrue flag ↔ IsOutOfRangeBy policy f.signed f.width v)
+    → IsReadAs mode r bytes f policy bits flag
+image_read_as mode r bytes f policy p found number bits flag numeral reading e same image out =
+    let holds : IsNumber number reading.number = subst (λ (n : Number). IsNumber n reading.number) (sym same) reading.holds in
+    record {
+      parts = p;
+      numeral = numeral;
+      number = reading.number;
+      read = subst (λ (t : FormatParts). IsReadNumber mode r p t.frac reading.number) e reading.read;
+      image = image reading.number holds;
+      flag = out reading.number holds;
+    }
+
+-- `unread` of a refused image
+pub image_unread : (mode : ReadMode) (r : Radix) (bytes : List ℕ) (f : FormatParts) (policy : Policy) (p : Parts) (found : ReadNumber) (number : Number) (flag : Bool) (kind : ParseErrorKind)
+    → HasNumeral r bytes p → IsReading mode r p found → found.format ≡ f → number ≡ number_in found → kind ≡ Overflow
+    → ((v : ℤ) → IsNumber number v → IsTrue flag ↔ IsOutOfRangeBy policy f.signed f.width v)
+    → (policy ≡ Checked) × (IsTrue flag ⊎ IsTrue false)
+    → IsUnread mode r bytes f policy kind
+image_unread mode r bytes f policy p found number flag kind numeral reading e same is out (checked, inr never) = absurd (false≢true never)
+image_unread mode r bytes f policy p found number flag kind numeral reading e same is out (checked, inl is_out) =
+    let holds : IsNumber number reading.number = subst (λ (n : Number). IsNumber n reading.number) (sym same) reading.holds in
+    inr (
+      is,
+      checked,
+      record {
+        parts = p;
+        has = numeral;
+        number = reading.number;
+        read = subst (λ (t : FormatParts). IsReadNumber mode r p t.frac reading.number) e reading.read;
+        out_of_range = subst (λ (q : Policy). IsOutOfRangeBy q f.signed f.width reading.number) checked ((out reading.number holds).0 is_out);
+      },
+    )
+
+pub read_exact : (mode : ReadMode) (r : Radix) (bytes : List ℕ) (f : FormatParts) (found : ReadNumber) (exact : Bool) → ((p : Parts) → HasNumeral r bytes p → IsReading mode r p found) → found.format ≡ f → exact ≡ found.exact
+    → (p : Parts) → HasNumeral r bytes p → IsTrue exact ↔ IsWholeUlps r p f.frac
+read_exact mode r bytes f found exact reading e is p numeral =
+    let P : Bool → Type 0 = λ b. IsTrue b ↔ IsWholeUlps r p found.format.frac in
+    subst (λ (t : FormatParts). IsTrue exact ↔ IsWholeUlps r p t.frac) e (subst P (sym is) (reading p numeral).exact)
 
 pub unread : (mode : ReadMode) (r : Radix) (bytes : List ℕ) (f : FormatParts) (policy : Policy) (p : Parts) (found : ReadNumber) (kind : ParseErrorKind)
     → HasNumeral r bytes p → IsReading mode r p found → found.format ≡ f → kind ≡ Overflow

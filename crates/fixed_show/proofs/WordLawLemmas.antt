@@ -1,4 +1,4 @@
--- A text is one word, or has one fault.
+-- A text is just one word or has just one fault.
 use Rattle.std.proofs.Common.{◌≡◌, ◌∙◌, ℕ, ℤ, pos, List, [], ◌∷◌, Bool, true, false, length, refl, sym, ap, subst, arith, inl, inr, true≢false, if◌then◌else◌}
 use Rattle.std.specs.Str.Parse.{AllDigits}
 use Rattle.fixed_bits.proofs.Public.{image_one, range_decided}
@@ -35,7 +35,7 @@ spelt_some bare f text n is fault = absurd (omega (arith, is.some, ap length fau
 none_invalid : (r : ℕ) (ds : List ℕ) → ds ≡ [] → (¬ AllDigits r ds) → ⊥
 none_invalid r ds none invalid = invalid (subst (AllDigits r) (sym none) tt)
 
--- ---- one word
+-- ---- a text is one word
 pub word_one : WordIsTheOne
 word_one bare f text v w width (inl a) (inl b) =
     let same : a.word ≡ b.word = a.spells.number ∙ sym b.spells.number in
@@ -44,7 +44,7 @@ word_one bare f text v w width (inl a) (inr b) = absurd (both _ a.plain b.signed
 word_one bare f text v w width (inr a) (inl b) = absurd (both _ b.plain a.signed)
 word_one bare f text v w width (inr a) (inr b) = a.is ∙ ap (with_sign (has_minus text)) (a.spells.number ∙ sym b.spells.number) ∙ sym b.is
 
--- ---- one fault
+-- ---- a text has one fault
 pub fault_one : WordFaultIsTheOne
 fault_one bare f text MisplacedUnderscore MisplacedUnderscore x y = refl
 fault_one bare f text MisplacedUnderscore InvalidDigit x y = absurd (both _ y.0 x)
@@ -72,7 +72,7 @@ fault_one bare f text OutOfRange NoDigits x y = absurd (spelt_some bare f text x
 fault_one bare f text OutOfRange TooWide x y = absurd (both _ y.plain x.signed)
 fault_one bare f text OutOfRange OutOfRange x y = refl
 
--- ---- a word or a fault
+-- ---- a word has no fault
 spelt : (bare : Radix) (f : FormatParts) (text : List ℕ) (v : ℤ) → IsWord bare f text v → (n : ℕ) × IsWordText bare (without_sign text) n
 spelt bare f text v (inl a) = (a.word, plain_spelt bare text a.word a.plain a.spells)
 spelt bare f text v (inr a) = (a.size, a.spells)

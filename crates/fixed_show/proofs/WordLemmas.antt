@@ -21,7 +21,7 @@ use Rattle.fixed_numeral.specs.Literal.{without_underscores}
 use Rattle.fixed_show.specs.Inner.Words.{IsCutOff}
 use Rattle.fixed_show.specs.WordText.{IsOutside, IsWord, has_minus, has_sign, without_sign}
 
--- a number that is cut off, with one more digit
+-- a number capped at c, with one more digit
 pub cut_off : (v b d c : ℕ) → 0 < b → min (min v c * b + d) c ≡ min (v * b + d) c
 cut_off v b d c some = ⊎_elim low high (cases_lt v c)
   where
@@ -39,7 +39,7 @@ cut_off v b d c some = ⊎_elim low high (cases_lt v c)
 other : (b : ℕ) (bs : List ℕ) → (b ≡ 95 → ⊥) → without_underscores (b ∷ bs) ≡ b ∷ without_underscores bs
 other b bs u = grind (arith, nat_tests)
 
--- one byte more
+-- one more byte
 split_at : (bs : List ℕ) (i : ℕ) → i < length bs → bs ≡ take i bs ++ get_or bs i 0 ∷ drop (i + 1) bs
 split_at bs i h = sym (take-append-drop i bs) ∙ ap (λ t. take i bs ++ t) (drop_more bs i 0 h)
 
@@ -57,7 +57,7 @@ all_digits_at : (r : ℕ) (xs : List ℕ) (b : ℕ) (ys : List ℕ) → AllDigit
 all_digits_at r [] b ys all = all.0
 all_digits_at r (x ∷ xs) b ys all = all_digits_at r xs b ys all.1
 
--- the digits of the first bytes are a number that is cut off
+-- `number` is the number of the digits, capped at c
 pub record HasNumber (r : ℕ) (bs : List ℕ) (number c : ℕ) : Type 0 where
   pub digits : AllDigits r (without_underscores bs)
   pub number_is : number ≡ min (digits_value r (without_underscores bs)) c
@@ -78,7 +78,7 @@ number_digit r bs i n c b d m h e u some v l q p =
           ∙ ap (λ t. min (digits_value r (without_underscores (take i bs)) * r + t) c) v ∙ ap (λ t. min t c) (sym (digits_value_push r (without_underscores (take i bs)) b)) ∙ ap (λ ds. min (digits_value r ds) c) (sym s);
     }
 
--- a byte that is neither
+-- a byte other than an underscore
 with_other : (bs : List ℕ) (i : ℕ) → i < length bs → (get_or bs i 0 ≡ 95 → ⊥) → without_underscores bs ≡ without_underscores (take i bs) ++ get_or bs i 0 ∷ without_underscores (drop (i + 1) bs)
 with_other bs i h u = ap without_underscores (split_at bs i h) ∙ without_append (take i bs) (get_or bs i 0 ∷ drop (i + 1) bs) ∙ ap (λ t. without_underscores (take i bs) ++ t) (other (get_or bs i 0) (drop (i + 1) bs) u)
 
@@ -88,7 +88,7 @@ no_number r bs i b h e u l all =
     let s : digit_value b ≡ digit_value (get_or bs i 0) = ap digit_value e in
     omega (arith, w, s, l)
 
--- whether there is a digit
+-- a text with a byte other than an underscore is not empty without its underscores
 pub some_digit : (bs : List ℕ) (i b : ℕ) → i < length bs → b ≡ get_or bs i 0 → (b ≡ 95 → ⊥) → 0 < length (without_underscores bs)
 some_digit bs i b h e u = omega (arith, ap length (with_other bs i h (λ z. u (e ∙ z))), length-append (without_underscores (take i bs)) (get_or bs i 0 ∷ without_underscores (drop (i + 1) bs)))
 
@@ -99,7 +99,7 @@ base_some Dec = omega arith
 base_some Hex = omega arith
 
 -- ---- words of a format
--- a number below 2^64 that was cut off there is whole
+-- a number capped at 2^64 is whole if it is below 2^64
 uncut : (number c : ℕ) → c ≡ min number 18446744073709551616 → c < 18446744073709551616 → number ≡ c
 uncut number c cut small = omega (arith, cut, small)
 

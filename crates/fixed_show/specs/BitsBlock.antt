@@ -1,4 +1,4 @@
--- What number the bits of a register are.
+-- The number that a register word stands for.
 use Rattle.std.specs.Prelude.{◌≡◌, ℕ, List, ◌++◌, ℤ, Bool, true, false, codes}
 use Rattle.std.specs.Fmt.{signed_decimal}
 use Rattle.fixed_bits.specs.Formats.{FormatParts}
@@ -23,7 +23,7 @@ fault_message NoDigits = codes "string has no digits"
 fault_message TooWide = codes "word is wider than the format"
 fault_message OutOfRange = codes "number is out of the format's range"
 
--- text says the exact value of bits in a format, their shortest text, and the bits in decimal and in hexadecimal
+-- the text gives the exact value of bits in a format, their shortest text, and the bits in decimal and in hexadecimal
 pub record AreValues (form : Form) (f : FormatParts) (bits : ℤ) (text : List ℕ) : Type 0 where
   pub value : List ℕ
   pub is_value : IsExactText 10 false bits f.frac value
@@ -36,29 +36,29 @@ pub record AreValues (form : Form) (f : FormatParts) (bits : ℤ) (text : List �
       ++ (fact form (codes "hex") hex
       ++ fact form (codes "value") value))
 
--- the word is the number `bits`, and the facts say so
+-- the text is a word for the number `bits`, and the facts give its values
 pub record IsShownWord (form : Form) (bare : Radix) (f : FormatParts) (text facts : List ℕ) : Type 0 where
   pub bits : ℤ
   pub is_word : IsWord bare f text bits
   pub values : AreValues form f bits facts
 
--- the text is no word of the format
+-- the text is not a word of the format, and the facts say why
 pub record IsRefusedWord (form : Form) (bare : Radix) (f : FormatParts) (text facts : List ℕ) : Type 0 where
   pub fault : WordFault
   pub is_fault : HasWordFault bare f text fault
   pub facts_are : facts ≡ refusal form (fault_message fault)
 
--- facts are the answer to a word, whose digits are in the radix `bare` without a prefix, and `refused` says which of
--- the two
+-- the facts answer a word, whose digits are in the radix `bare` without a prefix, and `refused` says whether it is
+-- refused
 abbrev pub AreBitsFacts : Form → Radix → FormatParts → List ℕ → Bool → List ℕ → Type 0
 AreBitsFacts form bare f text true facts = IsRefusedWord form bare f text facts
 AreBitsFacts form bare f text false facts = IsShownWord form bare f text facts
 
--- block is the answer in lines
+-- `block` is the answer in lines
 abbrev pub IsBitsBlock : Radix → FormatParts → List ℕ → Bool → List ℕ → Type 0
 IsBitsBlock bare f text refused block = AreBitsFacts Lines bare f text refused block
 
--- object is the answer as an object of JSON
+-- `object` is the answer as an object of JSON
 pub record IsBitsObject (bare : Radix) (f : FormatParts) (text : List ℕ) (refused : Bool)
     (object : List ℕ) : Type 0 where
   pub members : List ℕ

@@ -1,4 +1,4 @@
--- A text is answered with one block.
+-- A text has one block or object for an answer.
 use Rattle.std.specs.Prelude.{◌≡◌, Bool, List, true, ℕ}
 use Rattle.fixed_bits.specs.Formats.{FormatParts}
 use Rattle.fixed_bits.specs.Ranges.{IsWidth}
@@ -19,7 +19,7 @@ ShowBlockIsTheOne = (mode : ReadMode) (r : Radix) (bytes : List ℕ) (f : Format
     (a b : List ℕ) → IsWidth f.width → IsShowBlock mode r bytes f policy o a → IsShowBlock mode r bytes f policy p b
     → (o ≡ p) × (a ≡ b)
 
--- one that is refused has one whatever the width
+-- a refused numeral has one block, whatever the width
 abbrev pub ShowRefusalIsTheOne : Type 0
 ShowRefusalIsTheOne = (mode : ReadMode) (r : Radix) (bytes : List ℕ) (f : FormatParts) (policy : Policy) (p : Bool)
     (a b : List ℕ) → IsShowBlock mode r bytes f policy true a → IsShowBlock mode r bytes f policy p b

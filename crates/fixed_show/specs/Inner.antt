@@ -1,7 +1,8 @@
--- Contracts of private functions. Nothing that is public cites them.
+-- Contracts of private functions; nothing public cites them.
 pub mod Naturals
 pub mod Decimals
 pub mod Errors
 pub mod Words
 pub mod Powers
 pub mod ErrorTexts
+pub mod Measures

@@ -11,7 +11,9 @@ pub mod PartLaws
 pub mod ErrorText
 pub mod UlpsText
 pub mod ShortError
+pub mod DecimalError
 pub mod ShowBlock
 pub mod ShownErrors
+pub mod Measured
 pub mod BlockLaws
 pub mod Inner

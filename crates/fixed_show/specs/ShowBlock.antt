@@ -1,4 +1,4 @@
--- What there is to know of a numeral in a format.
+-- The facts about a numeral in a format.
 use Rattle.std.specs.Prelude.{◌≡◌, ◌⊎◌, ◌↔◌, ℕ, List, ◌++◌, ℤ, Bool, true, false, IsTrue, codes}
 use Rattle.std.specs.Fmt.{signed_decimal}
 use Rattle.fixed_bits.specs.Formats.{FormatParts}
@@ -23,8 +23,8 @@ use Rattle.fixed_show.specs.declared.form.Form.TheVariants.{Lines, Members}
 use Rattle.fixed_show.specs.ErrorText.{IsErrorText}
 use Rattle.fixed_show.specs.ShortError.{AreFormUlps, IsFormError}
 
--- bytes are a numeral, bits are the image of its read number, and overflowed says whether that is out of the range
--- that the policy leaves
+-- `bytes` are a numeral, `bits` are the image of its rounded number, and `overflowed` says whether that number is out
+-- of the range that the policy leaves
 pub record IsReadAs (mode : ReadMode) (r : Radix) (bytes : List ℕ) (f : FormatParts) (policy : Policy) (bits : ℤ)
     (overflowed : Bool) : Type 0 where
   pub parts : Parts
@@ -34,16 +34,16 @@ pub record IsReadAs (mode : ReadMode) (r : Radix) (bytes : List ℕ) (f : Format
   pub image : IsImage policy f.signed f.width number bits
   pub flag : IsTrue overflowed ↔ IsOutOfRangeBy policy f.signed f.width number
 
--- kind says why there are no bits: bytes are no numeral, or under Checked the read number is out of range
+-- `kind` says why no bits were read: `bytes` are not a numeral or, under `Checked`, the rounded number is out of range
 abbrev pub IsUnread : ReadMode → Radix → List ℕ → FormatParts → Policy → ParseErrorKind → Type 0
 IsUnread mode r bytes f policy kind = HasCause r bytes kind
     ⊎ ((kind ≡ Overflow) × (policy ≡ Checked) × IsReadOutOfRange mode r (HasNumeral r bytes) f.frac f.signed f.width)
 
--- there are no bits, for a kind of refusal
+-- no bits were read, for some kind of refusal
 abbrev pub HasNoBits : ReadMode → Radix → List ℕ → FormatParts → Policy → Type 0
 HasNoBits mode r bytes f policy = (kind : ParseErrorKind) × IsUnread mode r bytes f policy kind
 
--- text is the error of the bits
+-- the text is the error of the bits
 pub record IsShownError (mode : ReadMode) (r : Radix) (bytes : List ℕ) (f : FormatParts) (policy : Policy)
     (text : List ℕ) : Type 0 where
   pub bits : ℤ
@@ -51,12 +51,12 @@ pub record IsShownError (mode : ReadMode) (r : Radix) (bytes : List ℕ) (f : Fo
   pub read : IsReadAs mode r bytes f policy bits overflowed
   pub is_error : IsErrorText r read.parts f.frac bits overflowed text
 
--- two texts, each with its bits
+-- the texts of two values, each with its bits
 abbrev pub neighbours_text : List ℕ → ℤ → List ℕ → ℤ → List ℕ
 neighbours_text low lo high hi = low ++ (codes " (" ++ (signed_decimal lo
     ++ (codes ") and " ++ (high ++ (codes " (" ++ (signed_decimal hi ++ codes ")"))))))
 
--- what says so
+-- the facts with two neighbours
 abbrev pub neighbours : Form → List ℕ → ℤ → List ℕ → ℤ → List ℕ
 neighbours Lines low lo high hi = fact Lines (codes "between") (neighbours_text low lo high hi)
 neighbours Members low lo high hi = fact Members (codes "low") low
@@ -64,12 +64,12 @@ neighbours Members low lo high hi = fact Members (codes "low") low
     ++ (fact Members (codes "high") high
     ++ fact Members (codes "high_bits") (signed_decimal hi)))
 
--- that there are none
+-- the facts without neighbours
 abbrev pub no_neighbours : Form → List ℕ
 no_neighbours Lines = fact Lines (codes "between") (codes "no two values of the format")
 no_neighbours Members = codes ",\"low\":null,\"low_bits\":null,\"high\":null,\"high_bits\":null"
 
--- text says the two values of the format that enclose the numeral, by their shortest texts and their bits
+-- the text gives the two values of the format that enclose the numeral, by their shortest texts and their bits
 pub record HasNeighbours (form : Form) (r : Radix) (bytes : List ℕ) (f : FormatParts) (text : List ℕ) : Type 0 where
   pub lo : ℤ
   pub hi : ℤ
@@ -80,19 +80,19 @@ pub record HasNeighbours (form : Form) (r : Radix) (bytes : List ℕ) (f : Forma
   pub is_high : IsShortestText hi f.frac high
   pub text_is : text ≡ neighbours form low lo high hi
 
--- the format lacks one of the two, and text says so
+-- the format lacks one of the two, and the text says so
 abbrev pub HasNoNeighbours : Form → Radix → List ℕ → FormatParts → List ℕ → Type 0
 HasNoNeighbours form r bytes f text = IsUnenclosed r bytes f × (text ≡ no_neighbours form)
 
 abbrev pub IsBetween : Form → Radix → List ℕ → FormatParts → List ℕ → Type 0
 IsBetween form r bytes f text = HasNeighbours form r bytes f text ⊎ HasNoNeighbours form r bytes f text
 
--- whether the read number is in range
+-- the text for whether the rounded number is out of range
 abbrev pub range_text : Bool → List ℕ
 range_text true = codes "overflowed"
 range_text false = codes "fits"
 
--- facts are all of this of the numeral
+-- the facts are the values, the error, the neighbours and the range of the numeral
 pub record IsShown (form : Form) (mode : ReadMode) (r : Radix) (bytes : List ℕ) (f : FormatParts) (policy : Policy)
     (facts : List ℕ) : Type 0 where
   pub bits : ℤ
@@ -112,23 +112,23 @@ pub record IsShown (form : Form) (mode : ReadMode) (r : Radix) (bytes : List ℕ
       ++ (between
       ++ fact form (codes "range") (range_text overflowed))))
 
--- facts say why there is nothing to show
+-- the facts say why the numeral is refused
 pub record IsRefusedNumeral (form : Form) (mode : ReadMode) (r : Radix) (bytes : List ℕ) (f : FormatParts)
     (policy : Policy) (facts : List ℕ) : Type 0 where
   pub kind : ParseErrorKind
   pub unread : IsUnread mode r bytes f policy kind
   pub facts_are : facts ≡ refusal form (message_of kind)
 
--- facts are the answer to a numeral, and `refused` says which of the two
+-- the facts answer a numeral, and `refused` says whether it is refused
 abbrev pub AreShowFacts : Form → ReadMode → Radix → List ℕ → FormatParts → Policy → Bool → List ℕ → Type 0
 AreShowFacts form mode r bytes f policy true facts = IsRefusedNumeral form mode r bytes f policy facts
 AreShowFacts form mode r bytes f policy false facts = IsShown form mode r bytes f policy facts
 
--- block is the answer in lines
+-- `block` is the answer in lines
 abbrev pub IsShowBlock : ReadMode → Radix → List ℕ → FormatParts → Policy → Bool → List ℕ → Type 0
 IsShowBlock mode r bytes f policy refused block = AreShowFacts Lines mode r bytes f policy refused block
 
--- object is the answer as an object of JSON
+-- `object` is the answer as an object of JSON
 pub record IsShowObject (mode : ReadMode) (r : Radix) (bytes : List ℕ) (f : FormatParts) (policy : Policy)
     (refused : Bool) (object : List ℕ) : Type 0 where
   pub members : List ℕ

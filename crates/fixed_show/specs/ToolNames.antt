@@ -8,11 +8,11 @@ use Rattle.fixed_show.specs.Forms.{fact}
 use Rattle.fixed_show.specs.declared.form.Form.{Form}
 use Rattle.fixed_show.specs.declared.form.Form.TheVariants.{Lines, Members}
 
--- a name of two numbers, with a text before them, between them and after them
+-- a name of two numbers, with texts before, between and after them
 unfoldable pub pair_text : List ℕ → ℤ → List ℕ → ℤ → List ℕ → List ℕ
 pair_text head first mark second tail = head ++ (signed_decimal first ++ (mark ++ (signed_decimal second ++ tail)))
 
--- what a name begins with, of a signed format and of one that is not
+-- the start of a name, for a signed format and for an unsigned one
 abbrev pub head_text : Bool → List ℕ → List ℕ → List ℕ
 head_text true with_sign without_sign = with_sign
 head_text false with_sign without_sign = without_sign
@@ -26,7 +26,7 @@ q_text signed whole frac = pair_text (head_text signed (codes "Q") (codes "UQ"))
 abbrev pub arm_name : Bool → ℕ → ℕ → List ℕ
 arm_name signed whole frac = q_text signed whole frac
 
--- TI's Q: the sign bit is counted apart from the whole bits above the point
+-- TI's Q: the sign bit is not one of the whole bits
 abbrev pub ti_name : Bool → ℕ → ℕ → List ℕ
 ti_name true whole frac = q_text true (whole - 1) frac
 ti_name false whole frac = q_text false whole frac
@@ -46,12 +46,12 @@ abbrev pub matlab_name : Bool → ℕ → ℕ → List ℕ
 matlab_name signed width frac = pair_text (head_text signed (codes "fi(_,1,") (codes "fi(_,0,")) (pos width)
     (codes ",") (pos frac) (codes ")")
 
--- that there are no names in Q
+-- the facts for a format without names in Q
 abbrev pub no_q_facts : Form → List ℕ
 no_q_facts Lines = fact Lines (codes "ARM") (codes "none") ++ fact Lines (codes "TI") (codes "none")
 no_q_facts Members = codes ",\"ARM\":null,\"TI\":null"
 
--- the names in Q with so many whole bits, which a signed format without whole bits has not
+-- the names in Q with this many whole bits; a signed format without whole bits has none
 abbrev pub q_facts : Form → Bool → ℕ → ℕ → List ℕ
 q_facts form true zero frac = no_q_facts form
 q_facts form true (suc above) frac = fact form (codes "ARM") (arm_name true (suc above) frac)
@@ -59,7 +59,7 @@ q_facts form true (suc above) frac = fact form (codes "ARM") (arm_name true (suc
 q_facts form false whole frac = fact form (codes "ARM") (arm_name false whole frac)
     ++ fact form (codes "TI") (ti_name false whole frac)
 
--- the names of a format in Q, which one whose fraction is longer than its width has not
+-- the names of a format in Q; one whose fraction is longer than its width has none
 abbrev pub format_q_facts : Form → FormatParts → List ℕ
 format_q_facts form f = if nat_le f.frac f.width then q_facts form f.signed (f.width - f.frac) f.frac
     else no_q_facts form
@@ -71,7 +71,7 @@ name_facts form f = format_q_facts form f
     ++ (fact form (codes "VHDL") (vhdl_name f.signed (whole_length f) f.frac)
     ++ fact form (codes "MATLAB") (matlab_name f.signed f.width f.frac)))
 
--- where there is an ARM's name, the command `fixed` takes it for the format
+-- the ARM name of a format, if it has one, names it for the command `fixed`
 abbrev pub ArmNameIsAName : Type 0
 ArmNameIsAName = (f : FormatParts) → IsFormat f.width f.frac → f.frac ≤ f.width → (f.signed ≡ true → f.frac < f.width)
     → IsFormatName (arm_name f.signed (f.width - f.frac) f.frac) f

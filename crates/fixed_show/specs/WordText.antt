@@ -1,4 +1,4 @@
--- Words: the bits of a register, as a person writes them.
+-- Register words: the bits of a register, as a person writes them.
 use Rattle.std.specs.Prelude.{◌≡◌, ◌⊎◌, ℕ, ◌<◌, ◌≤◌, ◌^◌, ◌==◌, ◌||◌, if◌then◌else◌, is_some, Bool, true, false, List}
 use Rattle.std.specs.Prelude.{[], ◌∷◌, length, drop, Option, Some, None, ℤ, pos}
 use Rattle.std.specs.Str.Parse.{AllDigits, digits_value}
@@ -15,14 +15,14 @@ use Rattle.fixed_show.specs.declared.words.WordFault.TheVariants.{MisplacedUnder
 use Rattle.fixed_show.specs.declared.words.WordFault.TheVariants.{TooWide, OutOfRange}
 
 -- ---- the prefix: '0' and a letter in either case
--- 'b' names radix 2, but not where it is itself a digit
+-- 'b' names radix 2, unless it is itself a digit
 abbrev pub binary_letter : Radix → Option Radix
 binary_letter Bin = Some Bin
 binary_letter Oct = Some Bin
 binary_letter Dec = Some Bin
 binary_letter Hex = None
 
--- what a letter names, where digits without a prefix are in the radix `bare`
+-- the radix that a letter names, if digits without a prefix are in the radix `bare`
 abbrev pub letter_radix : Radix → ℕ → Option Radix
 letter_radix bare b = if (b == 120) || (b == 88) then Some Hex else (if (b == 111) || (b == 79) then Some Oct else
     (if (b == 98) || (b == 66) then binary_letter bare else None))
@@ -45,16 +45,16 @@ abbrev pub after_prefix : Radix → List ℕ → List ℕ
 after_prefix bare text = if is_some (prefix_radix bare text) then drop 2 text else text
 
 -- ---- the digits
--- without underscores
+-- the digits without underscores
 abbrev pub word_digits : Radix → List ℕ → List ℕ
 word_digits bare text = without_underscores (after_prefix bare text)
 
--- an underscore comes first, without a prefix before it
+-- whether an underscore comes first, without a prefix before it
 abbrev pub begins_with_underscore : List ℕ → Bool
 begins_with_underscore [] = false
 begins_with_underscore (b ∷ bs) = b == underscore
 
--- text is digits, perhaps after a prefix and with underscores after a prefix or a digit, and spells n
+-- the text is digits, with an optional prefix and with underscores only after a prefix or a digit, and spells `n`
 pub record IsWordText (bare : Radix) (text : List ℕ) (n : ℕ) : Type 0 where
   pub first : begins_with_underscore text ≡ false
   pub digits : AllDigits (base (word_radix bare text)) (word_digits bare text)
@@ -70,13 +70,13 @@ abbrev pub has_minus : List ℕ → Bool
 has_minus [] = false
 has_minus (b ∷ bs) = b == minus
 
--- the bytes after it
+-- the bytes after a sign
 abbrev pub without_sign : List ℕ → List ℕ
 without_sign [] = []
 without_sign (b ∷ bs) = if is_sign b then bs else b ∷ bs
 
 -- ---- words of a format
--- text has no sign, spells a number of the format's width, and in two's complement this is v
+-- the text has no sign and spells a number of the format's width, which is `v` in two's complement
 pub record IsPlainWord (bare : Radix) (f : FormatParts) (text : List ℕ) (v : ℤ) : Type 0 where
   pub plain : has_sign text ≡ false
   pub word : ℕ
@@ -84,7 +84,7 @@ pub record IsPlainWord (bare : Radix) (f : FormatParts) (text : List ℕ) (v : �
   pub fits : word < 2 ^ f.width
   pub is : IsWrapped f.signed f.width (pos word) v
 
--- text has a sign, and with it spells the number v of the format
+-- the text has a sign and, with it, spells the number `v` of the format
 pub record IsSignedWord (bare : Radix) (f : FormatParts) (text : List ℕ) (v : ℤ) : Type 0 where
   pub signed : has_sign text ≡ true
   pub size : ℕ
@@ -95,21 +95,21 @@ pub record IsSignedWord (bare : Radix) (f : FormatParts) (text : List ℕ) (v : 
 abbrev pub IsWord : Radix → FormatParts → List ℕ → ℤ → Type 0
 IsWord bare f text v = IsPlainWord bare f text v ⊎ IsSignedWord bare f text v
 
--- text has no sign, and spells a number of more bits than the format
+-- the text has no sign and spells a number of more bits than the format
 pub record IsTooWide (bare : Radix) (f : FormatParts) (text : List ℕ) : Type 0 where
   pub plain : has_sign text ≡ false
   pub number : ℕ
   pub spells : IsWordText bare text number
   pub wide : 2 ^ f.width ≤ number
 
--- text has a sign, and with it spells a number that the format does not have
+-- the text has a sign and, with it, spells a number out of the range of the format
 pub record IsOutside (bare : Radix) (f : FormatParts) (text : List ℕ) : Type 0 where
   pub signed : has_sign text ≡ true
   pub size : ℕ
   pub spells : IsWordText bare (without_sign text) size
   pub out : IsOutOfRange f.signed f.width (with_sign (has_minus text) size)
 
--- fault says why text is no word of the format: the first of these that is so
+-- `fault` says why the text is not a word of the format: the first of these causes that applies
 abbrev pub HasWordFault : Radix → FormatParts → List ℕ → WordFault → Type 0
 HasWordFault bare f text MisplacedUnderscore = begins_with_underscore (without_sign text) ≡ true
 HasWordFault bare f text InvalidDigit = (begins_with_underscore (without_sign text) ≡ false)

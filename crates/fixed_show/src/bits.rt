@@ -1,4 +1,4 @@
-//! What number the bits of a register are.
+//! The number that the bits of a register stand for.
 
 ghost use Rattle.std.specs.Prelude.{◌≡◌, ◌+◌, ◌-◌, ◌*◌, ◌≤◌, ◌<◌, ◌^◌, ◌/◌, ◌++◌, false, pos, length, codes, IsTrue};
 ghost use Rattle.std.specs.Prelude.{◌↔◌};
@@ -21,7 +21,7 @@ use fixed_steps::Steps;
 use std::sync::ledger::Ledger;
 use text_buffer::TextBuffer;
 
-/// The bits of a number in two's complement, as a word of the format's width.
+/// Returns the bits of a number in two's complement, as a word of the format's width.
 fn word_of(bits: i128, format: Format) -> u64
     ensures { IsWrapped false format.width bits (pos result) }
 {
@@ -71,7 +71,7 @@ pub(crate) fn push_values<const N: usize, L: Ledger>(
     push_exact_fact(out, form, b"value", bits, frac);
 }
 
-/// Appends the facts of a word, or why it is refused. Answers whether it was.
+/// Appends the facts of a word, or why it is refused. Returns true if it is refused.
 fn push_bits_facts<const N: usize, L: Ledger>(
     out: &mut TextBuffer<N>,
     form: Form,
@@ -96,12 +96,10 @@ fn push_bits_facts<const N: usize, L: Ledger>(
     }
 }
 
-/// Appends the block of a word in a format: the shortest text of the number that it is, the bits in decimal and in
-/// hexadecimal, and the exact value. A word without a prefix is in the radix `bare`. A text that is no word of the
-/// format is
-/// answered by one line `error: ` and why. Answers whether it was. There must be room for `MAX_BLOCK` bytes. It takes
-/// at
-/// most 48 steps.
+/// Appends the block of a word in a format: the shortest text of its number, the bits in decimal and in hexadecimal,
+/// and the exact value. A word without a prefix is in the radix `bare`. A text that is not a word of the format gets
+/// only one line, `error: ` and why. Returns true if it is refused. There must be room for `MAX_BLOCK` bytes. It takes
+/// at most 48 steps.
 pub fn bits_block<const N: usize, L: Ledger>(
     text: &[u8],
     bare: Radix,
@@ -116,8 +114,8 @@ pub fn bits_block<const N: usize, L: Ledger>(
     push_bits_facts(out, Form::Lines, text, bare, format, steps)
 }
 
-/// Appends the same as an object of JSON, of at most `MAX_OBJECT` bytes, in which `refused` says why a text is no word.
-/// Above them is `given`, the first 768 bytes of the text. It takes at most 48 steps.
+/// Appends the same as a JSON object of at most `MAX_OBJECT` bytes, in which `refused` says why a text is not a word.
+/// Its first member, `given`, has the first 768 bytes of the text. It takes at most 48 steps.
 pub fn bits_object<const N: usize, L: Ledger>(
     text: &[u8],
     bare: Radix,

@@ -1,20 +1,20 @@
-//! How what is known of a number is written: in lines for people, or as members of an object of JSON.
+//! How facts are written: in lines for people, or as members of a JSON object.
 
 ghost use Rattle.std.specs.Prelude.{◌≡◌, ◌+◌, ◌≤◌, ◌++◌, length};
 ghost use Rattle.fixed_show.specs.Forms.{end_byte, label};
 
 use text_buffer::TextBuffer;
 
-/// How facts are written, each of which has a key and a text.
+/// How facts are written. Each has a key and a text.
 #[derive(Clone, Copy, Debug, PartialEq, Eq)]
 pub enum Form {
-    /// A line each: the key in ten columns, and the text.
+    /// One line each: the key in ten columns, and the text.
     Lines,
-    /// A member of an object of JSON each, after a comma: the key, and the text, both in quotes.
+    /// One member of a JSON object each, after a comma: the key and the text, both in quotes.
     Members,
 }
 
-/// Appends what stands before the text of a fact.
+/// Appends the part of a fact before its text: the key, padded or in quotes.
 pub(crate) fn push_label<const N: usize>(out: &mut TextBuffer<N>, form: Form, key: &[u8])
     requires key { length key.now ≤ 10 }
     requires room { length out.old + 15 ≤ N }
@@ -35,7 +35,7 @@ pub(crate) fn push_label<const N: usize>(out: &mut TextBuffer<N>, form: Form, ke
     }
 }
 
-/// The byte that stands after the text of a fact.
+/// Returns the byte after the text of a fact.
 pub(crate) fn end_byte(form: Form) -> u8
     ensures { result ≡ end_byte form }
 {

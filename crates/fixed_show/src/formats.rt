@@ -1,4 +1,4 @@
-//! What there is to know of a format.
+//! Describes a format.
 //!
 //! Surviving digits are counted as whole digits and as places after the point. A count of significant digits has no
 //! meaning near zero, where a format holds only a few.
@@ -24,7 +24,7 @@ use fixed_write::{push_integer, push_shortest};
 use std::sync::ledger::Ledger;
 use text_buffer::TextBuffer;
 
-/// The greatest exponent of a power of ten that is not above a number.
+/// Returns the greatest exponent of a power of ten that is not above a number.
 fn decimal_log(number: u128, most: u32) -> u32
     requires some { 0 < number }
     requires below { number < 10 ^ (most + 1) }
@@ -49,7 +49,7 @@ pub(crate) fn places_of(frac: u32) -> u32
     decimal_log(1 << frac, 20)
 }
 
-/// How many digits every whole number has that is in a range up to `top` ulps of 2^-`frac`.
+/// The greatest `n` for which every whole number of `n` digits is in a range up to `top` ulps of 2^-`frac`.
 fn whole_digits_of(top: i128, frac: u32) -> u32
     requires frac { frac ≤ 64 }
     requires low { pos 0 ≤ℤ top }
@@ -60,7 +60,7 @@ fn whole_digits_of(top: i128, frac: u32) -> u32
     decimal_log(((top as u128) >> frac) + 1, 20)
 }
 
-/// Appends the line of how many digits survive.
+/// Appends the line that says how many digits survive.
 fn push_digits_line<const N: usize>(out: &mut TextBuffer<N>, whole: u32, places: u32)
     requires whole { whole ≤ 20 }
     requires places { places ≤ 20 }
@@ -76,7 +76,7 @@ fn push_digits_line<const N: usize>(out: &mut TextBuffer<N>, whole: u32, places:
     out.push(b'\n');
 }
 
-/// Appends the line of the shortest texts of two numbers of ulps of 2^-`frac`.
+/// Appends the line with the shortest texts of two numbers of ulps of 2^-`frac`.
 fn push_shortest_ends<const N: usize, L: Ledger>(
     out: &mut TextBuffer<N>,
     low: i128,
@@ -170,9 +170,9 @@ fn push_format_facts<const N: usize, L: Ledger>(
     push_names(out, form, format);
 }
 
-/// Appends the block of a format: its word, its least and its greatest value and its ulp exactly, how many decimal
-/// digits always survive reading and printing, the shortest texts of the two ends, and its names in other tools. There
-/// must be room for `MAX_BLOCK` bytes. It takes at most 96 steps.
+/// Appends the block of a format: its name, its least and greatest value and its ulp exactly, how many decimal digits
+/// always survive reading and printing, the shortest texts of the two ends, and its names in other tools. There must be
+/// room for `MAX_BLOCK` bytes. It takes at most 96 steps.
 pub fn format_block<const N: usize, L: Ledger>(
     format: Format,
     out: &mut TextBuffer<N>,
@@ -185,8 +185,8 @@ pub fn format_block<const N: usize, L: Ledger>(
     push_format_facts(out, Form::Lines, format, steps);
 }
 
-/// Appends the same as an object of JSON, of at most `MAX_OBJECT` bytes. Its first member is `given`, the first 768
-/// bytes of a word that names the format.
+/// Appends the same as a JSON object of at most `MAX_OBJECT` bytes. Its first member, `given`, has the first 768 bytes
+/// of a word that names the format.
 pub fn format_object<const N: usize, L: Ledger>(
     word: &[u8],
     format: Format,

@@ -1,8 +1,8 @@
-//! Texts and objects of JSON.
+//! JSON texts and objects.
 //!
-//! Numbers are texts, since most readers of JSON take a number for a float. Errors are in full, since no screen is
-//! filled. `given` has for each byte the character of its number, so it holds bytes that are not UTF-8, and two words
-//! have two texts.
+//! Numbers are texts, because most readers of JSON take a number for a float. Errors are in full, because no screen is
+//! filled. `given` has for each byte the character of that number, so it also holds bytes that are not UTF-8, and
+//! different words have different texts.
 
 ghost use Rattle.std.specs.Prelude.{◌≡◌, ◌+◌, ◌*◌, ◌≤◌, ◌++◌, flat_map, length, take, codes};
 ghost use Rattle.fixed_show.specs.Forms.{refusal};
@@ -20,7 +20,7 @@ pub const MAX_OBJECT: usize = 8000;
 /// How many bytes of a text an object shows.
 const MAX_GIVEN: usize = 768;
 
-/// Appends a byte as it stands in a text of JSON.
+/// Appends a byte as it is written in a JSON text.
 fn push_json_byte<const N: usize>(out: &mut TextBuffer<N>, byte: u8)
     requires room { length out.old + 6 ≤ N }
     ensures appended { out.new ≡ out.old ++ json_byte byte }
@@ -37,7 +37,7 @@ fn push_json_byte<const N: usize>(out: &mut TextBuffer<N>, byte: u8)
     }
 }
 
-/// Appends bytes as a text of JSON.
+/// Appends bytes as a JSON text.
 fn push_json_text<const N: usize>(out: &mut TextBuffer<N>, bytes: &[u8])
     requires room { length out.old + (6 * length bytes.now + 2) ≤ N }
     ensures appended { out.new ≡ out.old ++ json_text bytes.now }
@@ -50,7 +50,7 @@ fn push_json_text<const N: usize>(out: &mut TextBuffer<N>, bytes: &[u8])
     out.push(b'"');
 }
 
-/// The first bytes of a text, those that an object shows.
+/// Returns the first bytes of a text, which an object shows.
 #[tactic(auto, using(std::proofs::lemmas::List::take_min))]
 fn given_bytes(text: &[u8]) -> &[u8]
     ensures value { result.now ≡ take 768 text.now }
@@ -59,8 +59,8 @@ fn given_bytes(text: &[u8]) -> &[u8]
     &text[..MAX_GIVEN.min(text.len())]
 }
 
-/// Appends the beginning of an object: the text that was given.
-pub(crate) fn push_given<const N: usize>(out: &mut TextBuffer<N>, text: &[u8])
+/// Appends the start of an object: the first 768 bytes of the given text.
+pub fn push_given<const N: usize>(out: &mut TextBuffer<N>, text: &[u8])
     requires room { length out.old + 4620 ≤ N }
     ensures appended { out.new ≡ out.old ++ (codes "{\"given\":" ++ json_text (take 768 text.now)) }
     ensures short { length out.new ≤ length out.old + 4620 }
@@ -69,7 +69,7 @@ pub(crate) fn push_given<const N: usize>(out: &mut TextBuffer<N>, text: &[u8])
     push_json_text(out, given_bytes(text));
 }
 
-/// Appends the object of a text that is refused, of at most `MAX_OBJECT` bytes.
+/// Appends the object of a refused text, of at most `MAX_OBJECT` bytes.
 pub fn push_refused_object<const N: usize>(out: &mut TextBuffer<N>, text: &[u8], message: &str)
     requires message { length message.now ≤ 64 }
     requires room { length out.old + MAX_OBJECT ≤ N }

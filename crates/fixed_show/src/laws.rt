@@ -1,10 +1,12 @@
-//! Laws of what the blocks say, each the contract of a function that does nothing.
+//! Laws of the blocks, each the contract of a function that does nothing.
 
 ghost use Rattle.fixed_show.specs.BlockLaws.{BitsBlockIsTheOne, BitsObjectIsTheOne, ShowBlockIsTheOne};
 ghost use Rattle.fixed_show.specs.BlockLaws.{ShowObjectIsTheOne, ShowRefusalIsTheOne};
+ghost use Rattle.fixed_show.specs.DecimalError.{DecimalErrorIsTheOne};
 ghost use Rattle.fixed_show.specs.ErrorText.{ErrorTextIsTheOne};
 ghost use Rattle.fixed_show.specs.JsonText.{JsonTextIsOneToOne};
 ghost use Rattle.fixed_show.specs.FormatBlock.{FormatBlockIsTheOne, FormatObjectIsTheOne, PlacesSurvive};
+ghost use Rattle.fixed_show.specs.Measured.{MeasuredErrorIsTheOne};
 ghost use Rattle.fixed_show.specs.ShortError.{BlockErrorIsTheOne, BlockUlpsAreTheOne};
 ghost use Rattle.fixed_show.specs.ToolNames.{ArmNameIsAName};
 ghost use Rattle.fixed_show.specs.UlpsText.{UlpsTextIsTheOne};
@@ -20,10 +22,15 @@ pub fn word_is_the_one()
     ensures { WordIsTheOne }
 {}
 
-/// A text is refused as a word for one fault at most, and never where it is one.
+/// A text has at most one fault as a word, and none if it is a word.
 pub fn word_fault_is_the_one()
     ensures one { WordFaultIsTheOne }
     ensures none { WordHasNoFault }
+{}
+
+/// The error of a count of units has one text.
+pub fn decimal_error_is_the_one()
+    ensures { DecimalErrorIsTheOne }
 {}
 
 /// The error of bits has one text.
@@ -48,7 +55,7 @@ pub fn format_block_is_the_one()
     ensures object { FormatObjectIsTheOne }
 {}
 
-/// Where a format has a name in ARM's Q, the name is one of those that the format is known by.
+/// If a format has a name in ARM's Q, that is one of the names that the format is known by.
 pub fn arm_name_is_a_name()
     ensures { ArmNameIsAName }
 {}
@@ -74,7 +81,12 @@ pub fn show_object_is_the_one()
     ensures { ShowObjectIsTheOne }
 {}
 
-/// Bytes that have one text of JSON are the same.
+/// Bytes with the same JSON text are the same.
 pub fn json_text_is_one_to_one()
     ensures { JsonTextIsOneToOne }
+{}
+
+/// A numeral has one error by a measure, or one cause of its refusal.
+pub fn measured_error_is_the_one()
+    ensures { MeasuredErrorIsTheOne }
 {}

@@ -103,7 +103,7 @@ pub(crate) fn push_shortest_fact<const N: usize, L: Ledger>(
 }
 
 /// Appends a fact: a number in decimal.
-pub(crate) fn push_integer_fact<const N: usize>(
+pub fn push_integer_fact<const N: usize>(
     out: &mut TextBuffer<N>,
     form: Form,
     key: &[u8],
@@ -121,12 +121,7 @@ pub(crate) fn push_integer_fact<const N: usize>(
 }
 
 /// Appends a fact: a text.
-pub(crate) fn push_fact<const N: usize>(
-    out: &mut TextBuffer<N>,
-    form: Form,
-    key: &[u8],
-    text: &[u8],
-)
+pub fn push_fact<const N: usize>(out: &mut TextBuffer<N>, form: Form, key: &[u8], text: &[u8])
     requires key { length key.now ≤ 10 }
     requires room { length out.old + (length text.now + 16) ≤ N }
     ensures appended { out.new ≡ out.old ++ fact form key.now text.now }
@@ -137,8 +132,8 @@ pub(crate) fn push_fact<const N: usize>(
     out.push(end_byte(form));
 }
 
-/// Appends what reports a refusal.
-pub(crate) fn push_refusal<const N: usize>(out: &mut TextBuffer<N>, form: Form, message: &str)
+/// Appends the line or the member that reports a refusal.
+pub fn push_refusal<const N: usize>(out: &mut TextBuffer<N>, form: Form, message: &str)
     requires short { length message.now ≤ 64 }
     requires room { length out.old + 80 ≤ N }
     ensures appended { out.new ≡ out.old ++ refusal form message.now }

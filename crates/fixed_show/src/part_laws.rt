@@ -3,7 +3,7 @@
 ghost use Rattle.fixed_show.specs.PartLaws.{PartBlockIsTheOne, PartFaultIsTheOne, PartHasNoFault, PartObjectIsTheOne};
 ghost use Rattle.fixed_show.specs.PartLaws.{ReversedTwice, WholeFieldIsTheWord, WholeIsTheWord};
 
-/// A word is refused for one fault at most where a part of it is asked for, and never where it has the part.
+/// A word has at most one fault for a part, and none if it has the part.
 pub fn part_fault_is_the_one()
     ensures one { PartFaultIsTheOne }
     ensures none { PartHasNoFault }
@@ -19,13 +19,13 @@ pub fn part_object_is_the_one()
     ensures { PartObjectIsTheOne }
 {}
 
-/// The part that is the whole word is what the word is, and so is the field of all bits of a format.
+/// The whole word as a part is the same number as the word, and so is the field of all bits of a format.
 pub fn whole_is_the_word()
     ensures whole { WholeIsTheWord }
     ensures field { WholeFieldIsTheWord }
 {}
 
-/// Bytes that are put in reverse twice are as they were.
+/// Bytes reversed twice are as they were.
 pub fn reversed_twice()
     ensures { ReversedTwice }
 {}

@@ -1,8 +1,8 @@
-//! Parts of words: some bits of a longer word, perhaps after its bytes are put in reverse.
+//! Parts of words: some bits of a longer word, perhaps after its bytes are reversed.
 //!
-//! A field has as many bits as the format, so the two cannot disagree. The bytes that are reversed are those that the
-//! digits write, in hexadecimal or binary, and not those of the format: a field is taken out of a longer word, and
-//! nothing else says how long it is.
+//! A field has as many bits as the format, so the two cannot disagree. The reversed bytes are those that the digits
+//! write, in hexadecimal or binary, and not those of the format: a field is taken from a longer word, and nothing else
+//! says how long that is.
 
 ghost use Rattle.std.specs.Prelude.{◌≡◌, ◌+◌, ◌*◌, ◌^◌, ◌≤◌, ◌<◌, ℕ, pos, false, IfOk, length};
 ghost use Rattle.std.specs.Prelude.{MatchOption, MatchResult};
@@ -25,12 +25,13 @@ use fixed_steps::Steps;
 use std::sync::ledger::Ledger;
 use text_buffer::TextBuffer;
 
-/// What is taken of a word, as many bits as the format has.
+/// Which bits to take from a word, as many as the format has.
 #[derive(Clone, Copy, Debug, PartialEq, Eq)]
 pub struct Part {
-    /// The lowest bit of the field that is taken. Without one it is the whole word, which has no more bits.
+    /// The lowest bit of the field. Without one, the whole word is taken, which must not have more bits than the
+    /// format.
     pub low: Option<u32>,
-    /// Whether the word's bytes are put in reverse before.
+    /// Whether the word's bytes are reversed first.
     pub is_reversed: bool,
 }
 
@@ -39,16 +40,16 @@ pub struct Part {
 pub enum PartFault {
     /// It begins with a sign.
     Signed,
-    /// It is no word of up to 64 bits.
+    /// It is not a word of up to 64 bits.
     NoWord(WordFault),
-    /// Its bytes are to be put in reverse, and its digits are not those of 1 to 8 whole bytes which have all bits up
-    /// to the highest that is taken.
+    /// Its bytes must be reversed, and its digits do not write 1 to 8 whole bytes with all bits up to the highest that
+    /// is taken.
     NotBytes,
     /// The word has more bits than the format, and no field is taken.
     TooWide,
 }
 
-/// Why a text is no word of up to 64 bits.
+/// Returns the message for a text that is not a word of up to 64 bits.
 fn long_message(fault: WordFault) -> &'static str
     ensures message { result.now ≡ long_message fault }
     ensures short { length result.now ≤ 64 }
@@ -75,7 +76,7 @@ impl PartFault {
     }
 }
 
-/// What a text without a sign spells, a number of up to 64 bits.
+/// Reads a text without a sign as a number of up to 64 bits.
 fn read_long(text: &[u8], bare: Radix) -> Result<u64, WordFault>
     requires { has_sign text.now ≡ false }
     ensures { MatchResult result (IsLongWord bare text.now) (HasWordFault bare longest text.now) }
@@ -87,7 +88,7 @@ fn read_long(text: &[u8], bare: Radix) -> Result<u64, WordFault>
     Ok(number as u64)
 }
 
-/// How many bytes are no underscores.
+/// Counts the bytes that are not underscores.
 fn digit_count(bytes: &[u8]) -> usize
     ensures { result ≡ length (without_underscores bytes.now) }
 {
@@ -100,7 +101,7 @@ fn digit_count(bytes: &[u8]) -> usize
     count
 }
 
-/// Of how many bytes so many digits are all digits.
+/// How many whole bytes `digits` digits write, if they do.
 fn byte_count(digits: usize, radix: Radix) -> Option<usize>
     ensures { MatchOption result ((n : ℕ) → ¬ WritesBytes radix digits n) (WritesBytes radix digits) }
 {
@@ -111,7 +112,7 @@ fn byte_count(digits: usize, radix: Radix) -> Option<usize>
     }
 }
 
-/// A number, and after it the `count` lowest bytes of another in reverse.
+/// Appends the `count` lowest bytes of `rest` to a number, in reverse.
 fn with_reversed(number: u64, rest: u64, count: usize) -> u64
     requires room { (number + 1) * 256 ^ count ≤ 2 ^ 64 }
     ensures { result ≡ number * 256 ^ count + reversed_bytes count rest }
@@ -123,7 +124,8 @@ fn with_reversed(number: u64, rest: u64, count: usize) -> u64
     }
 }
 
-/// A word, with its bytes in reverse where that is asked for and the text writes them all.
+/// Returns a word, with its bytes reversed if requested. `None`: its digits do not write up to 8 whole bytes with at
+/// least `reach` bits.
 fn ordered_word(text: &[u8], bare: Radix, is_reversed: bool, reach: u64, word: u64) -> Option<u64>
     ensures { MatchOption result ((m : ℕ) → ¬ IsOrdered is_reversed bare text.now reach word m)
         (IsOrdered is_reversed bare text.now reach word) }
@@ -140,7 +142,8 @@ fn ordered_word(text: &[u8], bare: Radix, is_reversed: bool, reach: u64, word: u
     }
 }
 
-/// The bits of a field, or the whole word where it has no more bits than the format.
+/// Returns the bits of a field or, without a field, the whole word. `None`: the whole word has more bits than the
+/// format.
 fn taken_bits(word: u64, low: Option<u32>, format: Format) -> Option<u64>
     ensures { MatchOption result ((p : ℕ) → ¬ AreBits low format.width word p) (AreBits low format.width word) }
 {
@@ -153,21 +156,21 @@ fn taken_bits(word: u64, low: Option<u32>, format: Format) -> Option<u64>
     }
 }
 
-/// How many bits of a word a part reaches up to.
+/// How many low bits of a word a part needs.
 fn reach_of(part: Part, format: Format) -> u64
     ensures { result ≡ reach_of part format }
 {
     u64::from(part.low.unwrap_or(0)) + u64::from(format.width())
 }
 
-/// The number that a part of a word is as bits of a format in two's complement. The word has no sign and up to 64
-/// bits, and is written as for `read_word`.
+/// Reads a part of a word as bits of a format in two's complement. The word has no sign and up to 64 bits, and is
+/// written as for `read_word`.
 ///
 /// # Errors
 ///
-/// A text with a sign; one that is no word, or one of more than 64 bits; where the bytes are put in reverse, one that
-/// is not written as 1 to 8 whole bytes, two digits to a byte in radix 16 and eight in radix 2, with all bits up to
-/// the highest that is taken; and, where no field is taken, a word of more bits than the format.
+/// Refuses a text with a sign; one that is not a word, or has more than 64 bits; if the bytes are reversed, one that
+/// does not write 1 to 8 whole bytes (two digits a byte in radix 16, eight in radix 2) with all bits up to the highest
+/// that is taken; and, if no field is taken, a word of more bits than the format.
 pub fn read_part(text: &[u8], bare: Radix, part: Part, format: Format) -> Result<i128, PartFault>
     ensures part { MatchResult result (IsPart bare part format text.now) (HasPartFault bare part format text.now) }
     ensures wide { IfOk result IsWide }
@@ -189,7 +192,7 @@ pub fn read_part(text: &[u8], bare: Radix, part: Part, format: Format) -> Result
     }
 }
 
-/// Appends the facts of a part of a word, or why there is none. Answers whether it was that.
+/// Appends the facts of a part of a word, or why there is none. Returns true if there is none.
 fn push_part_facts<const N: usize, L: Ledger>(
     out: &mut TextBuffer<N>,
     form: Form,
@@ -215,8 +218,8 @@ fn push_part_facts<const N: usize, L: Ledger>(
     }
 }
 
-/// Appends the block of a part of a word, as that of a word, or one line `error: ` and why there is none. Answers
-/// whether it was that. There must be room for `MAX_BLOCK` bytes. It takes at most 48 steps.
+/// Appends the block of a part of a word, like that of a word, or one line `error: ` and why there is none. Returns
+/// true if there is none. There must be room for `MAX_BLOCK` bytes. It takes at most 48 steps.
 pub fn part_block<const N: usize, L: Ledger>(
     text: &[u8],
     bare: Radix,
@@ -232,8 +235,8 @@ pub fn part_block<const N: usize, L: Ledger>(
     push_part_facts(out, Form::Lines, text, bare, part, format, steps)
 }
 
-/// Appends the same as an object of JSON, as that of a word. There must be room for `MAX_OBJECT` bytes. It takes at
-/// most 48 steps.
+/// Appends the same as a JSON object, like that of a word. There must be room for `MAX_OBJECT` bytes. It takes at most
+/// 48 steps.
 pub fn part_object<const N: usize, L: Ledger>(
     text: &[u8],
     bare: Radix,

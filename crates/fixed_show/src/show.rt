@@ -1,9 +1,11 @@
-//! What there is to know of a numeral in a format.
+//! Shows a numeral in a format: its bits, its errors, its neighbours and whether it was in range.
 
-ghost use Rattle.std.specs.Prelude.{◌≡◌, ◌+◌, ◌*◌, ◌≤◌, ◌++◌, length, codes, IfOk, IfErr, true, false};
+ghost use Rattle.std.specs.Prelude.{◌≡◌, ◌↔◌, ◌+◌, ◌*◌, ◌≤◌, ◌++◌, length, codes, IfOk, IfErr, IsTrue, true, false};
 ghost use Rattle.std.specs.Fmt.{signed_decimal};
-ghost use Rattle.fixed_bits.specs.Ranges.{IsWide};
-ghost use Rattle.fixed_numeral.specs.Numeral.{IsNumeral};
+ghost use Rattle.fixed_bits.specs.Numbers.{number_of_image};
+ghost use Rattle.fixed_bits.specs.Ranges.{IsInRange, IsWide};
+ghost use Rattle.fixed_numeral.specs.Numeral.{HasNumeral, IsNumeral, Parts};
+ghost use Rattle.fixed_read.specs.Reading.{IsWholeUlps};
 ghost use Rattle.fixed_write.specs.Texts.{IsShortestText, shortest_text};
 ghost use Rattle.fixed_show.specs.Blocks.{Appends};
 ghost use Rattle.fixed_bits.specs.declared.format.Policy.{Policy as PolicyOf};
@@ -20,7 +22,7 @@ use crate::lines::{
     MAX_BLOCK, frac_of, push_fact, push_integer_fact, push_refusal, push_shortest_fact,
 };
 use crate::ulps::push_errors;
-use fixed_bits::{Format, Policy, ReadMode};
+use fixed_bits::{Format, Image, Policy, ReadMode, is_refused};
 use fixed_enclose::enclose;
 use fixed_numeral::{ParseErrorKind, ParseFixedError, Radix};
 use fixed_read::read_format;
@@ -29,20 +31,22 @@ use fixed_write::{push_integer, push_shortest};
 use std::sync::ledger::Ledger;
 use text_buffer::TextBuffer;
 
-/// The bits that a numeral is read as, and whether the read number was out of range.
+/// The bits that a numeral is read as, and what is known of them.
 #[derive(Drop)]
 pub struct Shown {
     /// The bits.
     pub bits: i128,
-    /// Whether the read number was out of the range that the policy leaves.
+    /// Whether the read number was out of range under the policy.
     pub overflowed: bool,
+    /// Whether the numeral was a whole number of ulps, so that nothing was rounded.
+    pub is_exact: bool,
 }
 
 /// Reads a numeral into a format.
 ///
 /// # Errors
 ///
-/// Other bytes are refused with the kind of their cause, and under `Checked` a read number out of range as `Overflow`.
+/// Refuses other bytes with the kind of their cause, and under `Checked` a number out of range as `Overflow`.
 pub fn read_shown<L: Ledger>(
     text: &[u8],
     radix: Radix,
@@ -53,6 +57,8 @@ pub fn read_shown<L: Ledger>(
 ) -> Result<Shown, ParseFixedError>
     ensures read { IfOk result (λ s. IsReadAs mode radix text.now format policy s.bits s.overflowed) }
     ensures wide { IfOk result (λ s. IsWide s.bits) }
+    ensures exact { IfOk result (λ s. (p : Parts) → HasNumeral radix text.now p
+        → IsTrue s.is_exact ↔ IsWholeUlps radix p format.frac) }
     ensures unread { IfErr result (λ kind. IsUnread mode radix text.now format policy kind) }
     ensures cost { steps.new ≤ steps.old + 8 * length text.now + 128 }
 {
@@ -64,9 +70,41 @@ pub fn read_shown<L: Ledger>(
         Some(bits) => Ok(Shown {
             bits,
             overflowed: found.is_out_of_range_by(policy),
+            is_exact: found.is_exact(),
         }),
         None => Err(ParseFixedError::new(ParseErrorKind::Overflow)),
     }
+}
+
+/// Reads a numeral into a format, as `read_shown` does, and returns its image by sign and magnitude.
+///
+/// # Errors
+///
+/// Those of `read_shown`.
+#[inline]
+pub fn read_image<L: Ledger>(
+    text: &[u8],
+    radix: Radix,
+    format: Format,
+    policy: Policy,
+    mode: ReadMode,
+    steps: &mut Steps<L>,
+) -> Result<Image, ParseFixedError>
+    ensures read { IfOk result (λ image. IsReadAs mode radix text.now format policy (number_of_image image)
+        image.is_out_of_range) }
+    ensures range { IfOk result (λ image. IsInRange format.signed format.width (number_of_image image)) }
+    ensures unread { IfErr result (λ kind. IsUnread mode radix text.now format policy kind) }
+    ensures cost { steps.new ≤ steps.old + 8 * length text.now + 128 }
+{
+    let found = match read_format(text, radix, format, mode, steps) {
+        Ok(found) => found,
+        Err(error) => return Err(error),
+    };
+    let image = found.number().image(format, policy);
+    if is_refused(policy, image.is_out_of_range, false) {
+        return Err(ParseFixedError::new(ParseErrorKind::Overflow));
+    }
+    Ok(image)
 }
 
 /// Appends two neighbours, each as its shortest text and its bits.
@@ -120,7 +158,7 @@ fn push_no_neighbours<const N: usize>(out: &mut TextBuffer<N>, form: Form)
     }
 }
 
-/// Appends a number of ulps of 2^-`frac` as its shortest text, and that number.
+/// Appends the shortest text of `bits` ulps of 2^-`frac`, and `bits` in parentheses.
 fn push_neighbour<const N: usize, L: Ledger>(
     out: &mut TextBuffer<N>,
     bits: i128,
@@ -175,8 +213,8 @@ fn push_range<const N: usize>(out: &mut TextBuffer<N>, form: Form, overflowed: b
     }
 }
 
-/// Appends the text of the error of the bits that a numeral is read as, in full where it is known exactly. Answers
-/// whether there are bits: where a numeral is refused, nothing is appended. There must be room for 1,380 bytes.
+/// Appends the text of the error of the bits that a numeral is read as, in full if it is known exactly. Returns false
+/// and appends nothing if the numeral is refused. There must be room for 1,380 bytes.
 pub fn push_error_of<const N: usize, L: Ledger>(
     text: &[u8],
     radix: Radix,
@@ -209,7 +247,7 @@ pub fn push_error_of<const N: usize, L: Ledger>(
     }
 }
 
-/// Appends what there is to know of the bits that a numeral was read as.
+/// Appends the facts of the bits that a numeral was read as.
 fn push_shown<const N: usize, L: Ledger>(
     out: &mut TextBuffer<N>,
     form: Form,
@@ -235,13 +273,13 @@ fn push_shown<const N: usize, L: Ledger>(
 }
 
 /// Appends the block of a numeral in a format: the shortest text of the bits that it is read as, the bits in decimal
-/// and in hexadecimal, their exact value, the exact error, which is that value less the numeral's, the error in ulps,
-/// the two values of the format that enclose the numeral, and whether the read number was in range. The errors are
-/// known exactly where the numeral, in decimal and without an exponent, has at most 100 digits before the point and
-/// 1,100 after it. One that is, and has at most 60 digits after the point, is written in full; of another the line says
-/// a power of ten that it is below. A numeral that is refused is answered by one line `error: ` and why. Answers
-/// whether it was. There must be room for `MAX_BLOCK` bytes. It takes at most 26 steps for each byte, and 3,307, but
-/// for the arithmetic of the errors, which takes at most some 5,000 passes over a number of 144 limbs.
+/// and in hexadecimal, their exact value, the exact error (that value less the numeral's), the error in ulps, the two
+/// values of the format that enclose the numeral, and whether the read number was in range. An error is known exactly
+/// if the numeral, in decimal and without an exponent, has at most 100 digits before the point and 1,100 after it. If
+/// so, and with at most 60 digits after the point, it is written in full; otherwise the line names a power of ten that
+/// it is below. A refused numeral gets only one line, `error: ` and why. Returns true if it is refused. There must be
+/// room for `MAX_BLOCK` bytes. It takes at most 26 steps for each byte, and 3,307, not counting the arithmetic of the
+/// errors: at most some 5,000 passes over a number of 144 limbs.
 pub fn show_block<const N: usize, L: Ledger>(
     text: &[u8],
     radix: Radix,
@@ -267,8 +305,8 @@ pub fn show_block<const N: usize, L: Ledger>(
     }
 }
 
-/// Appends the same as an object of JSON, of at most `MAX_OBJECT` bytes, with each error in full that is known exactly.
-/// In it `refused` says why a numeral is refused. Its first member is `given`, the first 768 bytes of the numeral.
+/// Appends the same as a JSON object of at most `MAX_OBJECT` bytes, with each exactly known error in full. Its first
+/// member, `given`, has the first 768 bytes of the numeral. `refused` says why a numeral is refused.
 pub fn show_object<const N: usize, L: Ledger>(
     text: &[u8],
     radix: Radix,

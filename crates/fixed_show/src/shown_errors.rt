@@ -1,4 +1,4 @@
-//! The error of a numeral, and the same in ulps: the two texts that a block of lines says.
+//! The error of a numeral, also in ulps: the two texts in a block of lines.
 
 ghost use Rattle.std.specs.Prelude.{◌≡◌, ◌*◌, ◌^◌, ◌<◌, ◌≤◌, length, IfSome, IsTrue, MatchOption, false, ℕ, List};
 ghost use Rattle.std.specs.Int.Digits.{AllBelowBase};
@@ -25,7 +25,7 @@ use fixed_steps::Steps;
 use std::sync::ledger::Ledger;
 use text_buffer::TextBuffer;
 
-/// How many bytes such a text has at most.
+/// The length of the longest such text, in bytes.
 pub const MAX_ERROR: usize = 1380;
 
 /// The texts of an error.
@@ -33,7 +33,7 @@ pub const MAX_ERROR: usize = 1380;
 pub struct ErrorTexts {
     /// The error.
     pub error: TextBuffer<MAX_ERROR>,
-    /// The same in ulps.
+    /// The error in ulps.
     pub ulps: TextBuffer<MAX_ERROR>,
 }
 
@@ -56,7 +56,7 @@ fn exact_texts(bits: i128, frac: u32, numeral: &Decimal, is_negative: bool) -> E
     ErrorTexts { error, ulps }
 }
 
-/// The texts of an error that is below a power of ten, in ulps of 2^-`frac`.
+/// The texts of an error below a power of ten, the second in ulps of 2^-`frac`.
 fn bound_texts(power: &Power, frac: u32, is_overflowed: bool) -> ErrorTexts
     requires frac { frac ≤ 64 }
     requires sign { IsTrue power.now.is_negative → 0 < power.now.exponent }
@@ -99,8 +99,8 @@ fn texts_of<'a, L: Ledger>(
     }
 }
 
-/// The texts of the errors of the bits that a numeral was read as, a number of ulps of 2^-`frac`. None where it is no
-/// numeral.
+/// The texts of the errors of the bits that a numeral was read as, a number of ulps of 2^-`frac`. `None`: the text is
+/// not a numeral.
 fn numeral_texts<L: Ledger>(
     shown: &Shown,
     frac: u32,
@@ -121,8 +121,8 @@ fn numeral_texts<L: Ledger>(
     }
 }
 
-/// The error of the bits that a numeral is read as, and the same in ulps, as its block says them. None where the
-/// numeral is refused.
+/// Returns the error of the bits that a numeral is read as, also in ulps, as in its block. `None`: the numeral is
+/// refused.
 pub fn error_texts<L: Ledger>(
     text: &[u8],
     radix: Radix,

@@ -12,7 +12,7 @@ use fixed_numeral::{Radix, Scanned};
 use fixed_steps::Steps;
 use std::sync::ledger::Ledger;
 
-/// What sizes are powers of.
+/// The base whose powers sizes count.
 fn size_unit(radix: Radix) -> u32
     ensures value { result ≡ size_unit radix }
     ensures least { 2 ≤ result }
@@ -24,7 +24,7 @@ fn size_unit(radix: Radix) -> u32
     }
 }
 
-/// How many units of size a digit of a radix makes.
+/// The size that one digit of a radix adds.
 fn digit_size(radix: Radix) -> u32
     ensures value { result ≡ digit_size radix }
     ensures most { result ≤ 4 }
@@ -36,7 +36,7 @@ fn digit_size(radix: Radix) -> u32
     }
 }
 
-/// The size of a whole number, which is at most `most`.
+/// Returns the size of a whole number, at most `most`.
 fn whole_size(number: u64, unit: u32, most: u32) -> u32
     requires least { 2 ≤ unit }
     requires below { number < 2 ^ most }
@@ -90,7 +90,7 @@ pub(crate) fn numeral_size<'a, L: Ledger>(
     }
 }
 
-/// The exponent of a power of ten that is not below a power of the unit.
+/// Returns the exponent of a power of ten that is not below the unit to the power of `size`.
 pub(crate) fn ten_power(radix: Radix, size: u128) -> u128
     requires { size < 2 ^ 69 }
     ensures power { result ≡ ten_power radix size }

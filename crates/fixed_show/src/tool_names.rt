@@ -1,8 +1,8 @@
 //! The names of a format in other tools.
 //!
 //! A signed format without whole bits has no name in Q notation: ARM's Q counts the sign bit as a whole bit, and TI's
-//! would need a count of -1. Nor has a format with fewer than zero whole bits. The name in MATLAB is that of a value,
-//! `fi(_,s,w,f)`, since that is what people type; the type alone is `numerictype(s,w,f)`.
+//! would need a count of -1. Nor has a format with fewer than zero whole bits. The MATLAB name is that of a value,
+//! `fi(_,s,w,f)`, because people type that; the type itself is `numerictype(s,w,f)`.
 
 ghost use Rattle.std.specs.Prelude.{◌≡◌, ◌+◌, ◌≤◌, ◌≤ℤ◌, ◌++◌, ◌-ℤ◌, neg_ℤ, pos, codes, length};
 ghost use Rattle.fixed_bits.specs.Ranges.{IsWide};
@@ -16,7 +16,7 @@ use fixed_bits::Format;
 use fixed_write::push_integer;
 use text_buffer::TextBuffer;
 
-/// A name of two numbers: what is before them, between them and after them.
+/// A name with two numbers, and the text before, between and after them.
 #[derive(Clone, Copy)]
 struct Pair<'a> {
     head: &'a [u8],
@@ -26,7 +26,7 @@ struct Pair<'a> {
     tail: &'a [u8],
 }
 
-/// Appends a fact: a name of two numbers, whose other parts have at most ten bytes each.
+/// Appends a fact: a name with two numbers. Its other parts have at most ten bytes each.
 fn push_pair_fact<const N: usize>(out: &mut TextBuffer<N>, form: Form, key: &[u8], pair: &Pair<'_>)
     requires first { IsWide pair.now.first }
     requires second { IsWide pair.now.second }
@@ -48,7 +48,7 @@ fn push_pair_fact<const N: usize>(out: &mut TextBuffer<N>, form: Form, key: &[u8
     out.push(end_byte(form));
 }
 
-/// What a name begins with, of a signed format or of one that is not.
+/// Chooses the prefix of a name by whether the format is signed.
 fn head_of<'a>(signed: bool, with_sign: &'a [u8], without_sign: &'a [u8]) -> &'a [u8]
     ensures { result.now ≡ head_text signed with_sign.now without_sign.now }
 {
@@ -96,7 +96,7 @@ fn push_no_q_facts<const N: usize>(out: &mut TextBuffer<N>, form: Form)
     }
 }
 
-/// Appends the names in ARM's and in TI's Q, of a format with so many whole bits.
+/// Appends the names in ARM's and TI's Q of a format with `whole` whole bits, or that there are none.
 fn push_q_facts<const N: usize>(
     out: &mut TextBuffer<N>,
     form: Form,
@@ -118,7 +118,7 @@ fn push_q_facts<const N: usize>(
     }
 }
 
-/// Appends the names of a format in ARM's and in TI's Q, or that there are none.
+/// Appends the names of a format in ARM's and TI's Q, or that there are none.
 fn push_format_q_facts<const N: usize>(out: &mut TextBuffer<N>, form: Form, format: Format)
     requires room { length out.old + 176 ≤ N }
     ensures appended { out.new ≡ out.old ++ format_q_facts form format }

@@ -1,10 +1,10 @@
-//! The error in ulps, and the facts that say an error.
+//! The error in ulps, and the facts that report an error.
 //!
 //! The error in ulps is the error times 2^f: the bits less the numeral times 2^f.
 //!
-//! The error in ulps has a line of its own, since a number alone in its line is easiest to read, for a program too. If
-//! the error is given by a power of ten, so are the ulps: by that power times 2^f, rounded up, which may be ten times
-//! the least. A number in range is less than an ulp off, so no line says more.
+//! The error in ulps has its own line, because a number alone on a line is easiest to read, also for a program. If the
+//! error is given as a power of ten, so are the ulps: as that power times 2^f, rounded up, which may be ten times the
+//! least. A number in range is less than an ulp off, so its line never names more than one ulp.
 
 ghost use Rattle.std.specs.Prelude.{◌≡◌, ◌+◌, ◌*◌, ◌^◌, ◌<◌, ◌≤◌, length, IsTrue, false, ℕ, ℤ, List};
 ghost use Rattle.std.specs.Int.Digits.{AllBelowBase};
@@ -18,7 +18,8 @@ ghost use Rattle.fixed_numeral.specs.declared.radix.Radix.{Radix as RadixOf};
 ghost use Rattle.fixed_show.specs.Blocks.{Appends};
 ghost use Rattle.fixed_show.specs.ErrorText.{error_num};
 ghost use Rattle.fixed_show.specs.Inner.Errors.{AreBoundFacts, AreErrorFacts, AreExactFacts, IsDecimalOf};
-ghost use Rattle.fixed_show.specs.Inner.Errors.{IsFormDecimal, IsLessThanUlp};
+ghost use Rattle.fixed_show.specs.Inner.Errors.{IsLessThanUlp};
+ghost use Rattle.fixed_show.specs.ShortError.{IsFormDecimal};
 ghost use Rattle.fixed_show.specs.UlpsText.{ulps_power};
 
 use crate::decimals::push_trimmed;
@@ -35,7 +36,7 @@ use fixed_steps::Steps;
 use std::sync::ledger::Ledger;
 use text_buffer::TextBuffer;
 
-/// `bits` less a decimal times 2^`frac`, exactly. The decimal is negative where `is_negative`.
+/// Computes `bits` less a decimal times 2^`frac`, exactly. The decimal is negative if `is_negative`.
 pub(crate) fn exact_ulps(
     bits: i128,
     frac: u32,
@@ -66,7 +67,7 @@ pub(crate) fn exact_ulps(
     }
 }
 
-/// The power of ten of ulps of 2^-`frac` that is named for an error below a power of ten.
+/// Returns the power of ten to name in ulps of 2^-`frac` for an error below a power of ten.
 pub(crate) fn ulps_power(power: &Power, frac: u32, is_overflowed: bool) -> Power
     requires frac { frac ≤ 64 }
     requires small { power.now.exponent < 2 ^ 69 }
@@ -94,9 +95,13 @@ pub(crate) fn ulps_power(power: &Power, frac: u32, is_overflowed: bool) -> Power
     }
 }
 
-/// Appends a number over a power of ten: in full, but in lines one of more than 60 digits after the point as the least
-/// power of ten that it is below in size.
-fn push_decimal<const N: usize>(out: &mut TextBuffer<N>, form: Form, decimal: &SignedDecimal)
+/// Appends a number over a power of ten in full. In lines, a number with more than 60 digits after the point is given
+/// as the least power of ten above its size.
+pub(crate) fn push_decimal<const N: usize>(
+    out: &mut TextBuffer<N>,
+    form: Form,
+    decimal: &SignedDecimal,
+)
     requires places { decimal.now.places ≤ 1104 }
     requires room { length out.old + 1380 ≤ N }
     ensures decimal { (x : ℤ) (den : ℕ) → 0 < den
@@ -112,7 +117,7 @@ fn push_decimal<const N: usize>(out: &mut TextBuffer<N>, form: Form, decimal: &S
     }
 }
 
-/// Appends the error of `bits` ulps of 2^-`frac` less a decimal, and the same in ulps.
+/// Appends the error of `bits` ulps of 2^-`frac` against a decimal, and the same in ulps.
 fn push_exact_facts<const N: usize>(
     out: &mut TextBuffer<N>,
     form: Form,
@@ -141,7 +146,7 @@ fn push_exact_facts<const N: usize>(
     out.push(end_byte(form));
 }
 
-/// Appends an error that is below a power of ten, and for ulps of 2^-`frac` the same in ulps.
+/// Appends the power of ten that an error is below, and the same in ulps of 2^-`frac`.
 fn push_bound_facts<const N: usize>(
     out: &mut TextBuffer<N>,
     form: Form,

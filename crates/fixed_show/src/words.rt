@@ -22,7 +22,7 @@ ghost use Rattle.fixed_show.specs.Inner.Words.{IsCutOff, IsUnspelled};
 use fixed_bits::{Format, Policy};
 use fixed_numeral::Radix;
 
-/// Why a text is no word of a format.
+/// Why a text is not a word of a format.
 #[derive(Clone, Copy, Debug, PartialEq, Eq)]
 pub enum WordFault {
     /// An underscore comes first.
@@ -53,7 +53,7 @@ impl WordFault {
     }
 }
 
-/// The radix that a letter after a zero names, where digits without a prefix are in the radix `bare`.
+/// Returns the radix that a letter after a zero names. Digits without a prefix are in the radix `bare`.
 fn letter_radix(letter: u8, bare: Radix) -> Option<Radix>
     ensures { result ≡ letter_radix bare letter }
 {
@@ -65,7 +65,7 @@ fn letter_radix(letter: u8, bare: Radix) -> Option<Radix>
     }
 }
 
-/// The radix of a word's digits, and the bytes after its prefix.
+/// Returns the radix of a word's digits, and the bytes after its prefix.
 pub(crate) fn split_prefix(text: &[u8], bare: Radix) -> (Radix, &[u8])
     ensures radix { result.0 ≡ word_radix bare text.now }
     ensures rest { result.1.now ≡ after_prefix bare text.now }
@@ -79,7 +79,7 @@ pub(crate) fn split_prefix(text: &[u8], bare: Radix) -> (Radix, &[u8])
     }
 }
 
-/// The digit of a radix that a byte is.
+/// Returns the value of a byte as a digit of a radix, if it is one.
 fn digit_of(byte: u8, radix: Radix) -> Option<u8>
     ensures { MatchOption result (base radix ≤ digit_value byte) (λ d. (d ≡ digit_value byte) × (d < base radix)) }
 {
@@ -96,10 +96,10 @@ fn digit_of(byte: u8, radix: Radix) -> Option<u8>
     }
 }
 
-/// More than every word.
+/// One more than the greatest word.
 pub(crate) const LIMIT: u128 = 1 << 64;
 
-/// A number that is cut off at `LIMIT`, with one more digit.
+/// Appends a digit to a number that is cut off at `LIMIT`.
 fn with_digit(number: u128, base: u32, digit: u8) -> u128
     requires number { number ≤ LIMIT }
     requires base { base ≤ 16 }
@@ -109,7 +109,7 @@ fn with_digit(number: u128, base: u32, digit: u8) -> u128
     (number * u128::from(base) + u128::from(digit)).min(LIMIT)
 }
 
-/// What digits with underscores spell, cut off at `LIMIT`. None where a byte is neither.
+/// Reads digits with underscores as a number, cut off at `LIMIT`. `None`: a byte is neither.
 fn digits_number(bytes: &[u8], radix: Radix) -> Option<u128>
     ensures { MatchOption result (¬ AllDigits (base radix) (without_underscores bytes.now))
         (λ n. AllDigits (base radix) (without_underscores bytes.now) × (n ≡ min (digits_value (base radix)
@@ -127,7 +127,7 @@ fn digits_number(bytes: &[u8], radix: Radix) -> Option<u128>
     Some(number)
 }
 
-/// Whether there is a byte that is no underscore.
+/// Whether there is a byte other than an underscore.
 fn has_digit(bytes: &[u8]) -> bool
     ensures { (result ≡ true) ↔ (0 < length (without_underscores bytes.now)) }
 {
@@ -139,7 +139,7 @@ fn has_digit(bytes: &[u8]) -> bool
     false
 }
 
-/// What a text without a sign spells, cut off at `LIMIT`.
+/// Reads a text without a sign as a number, cut off at `LIMIT`.
 pub(crate) fn spelled_number(text: &[u8], bare: Radix) -> Result<u128, WordFault>
     ensures { MatchResult result (IsCutOff bare text.now) (IsUnspelled bare text.now) }
 {
@@ -157,7 +157,7 @@ pub(crate) fn spelled_number(text: &[u8], bare: Radix) -> Result<u128, WordFault
     }
 }
 
-/// The number that a word without a sign is in two's complement.
+/// Reads a word without a sign, in two's complement.
 fn read_plain(text: &[u8], bare: Radix, format: Format) -> Result<i128, WordFault>
     requires { has_sign text.now ≡ false }
     ensures word { MatchResult result (IsWord bare format text.now) (HasWordFault bare format text.now) }
@@ -179,7 +179,7 @@ pub(crate) fn words_of(format: Format) -> u128
     1 << format.width()
 }
 
-/// The bits of a format that a word is in two's complement.
+/// Returns the bits of a format for a word in two's complement.
 pub(crate) fn bits_of(word: u64, format: Format) -> i128
     ensures image { IsWrapped format.signed format.width (pos word) result }
     ensures wide { IsWide result }
@@ -187,7 +187,7 @@ pub(crate) fn bits_of(word: u64, format: Format) -> i128
     Policy::Wrapping.image(format, i128::from(word)).unwrap()
 }
 
-/// The number with that sign of a word whose sign is taken off.
+/// Reads a word with a sign as the number itself.
 fn read_signed(text: &[u8], bare: Radix, format: Format) -> Result<i128, WordFault>
     requires { has_sign text.now ≡ true }
     ensures word { MatchResult result (IsWord bare format text.now) (HasWordFault bare format text.now) }
@@ -203,7 +203,7 @@ fn read_signed(text: &[u8], bare: Radix, format: Format) -> Result<i128, WordFau
     }
 }
 
-/// A size with a sign.
+/// Gives a size its sign.
 fn signed(negative: bool, size: u128) -> i128
     requires { size ≤ LIMIT }
     ensures { result ≡ with_sign negative size }
@@ -222,16 +222,14 @@ pub(crate) fn has_sign(text: &[u8]) -> bool
     text.len() > 0 && (text[0] == b'+' || text[0] == b'-')
 }
 
-/// The number that a text is as a word of a format: digits with underscores, in radix 2, 8 or 16 after `0b`, `0o` or
-/// `0x`
-/// in either case, else in the radix `bare`, where a `b` after a zero is a digit if that is 16. Without a sign it is
-/// a word
-/// of at most the format's width in two's complement, and with one the number itself.
+/// Reads a text as a word of a format: digits with underscores, in radix 2, 8 or 16 after `0b`, `0o` or `0x` in either
+/// case, else in the radix `bare`. If `bare` is 16, a `b` after a zero is a digit. Without a sign, the text is a word
+/// of at most the format's width in two's complement; with a sign, it is the number itself.
 ///
 /// # Errors
 ///
-/// A text whose digits begin with an underscore, that has another byte, has no digit, spells more than the format's
-/// width, or with its sign a number that is out of the format's range.
+/// Refuses a text whose digits begin with an underscore, that has another byte or no digit, that spells more bits than
+/// the format's width, or that spells with its sign a number out of the format's range.
 pub fn read_word(text: &[u8], bare: Radix, format: Format) -> Result<i128, WordFault>
     ensures word { MatchResult result (IsWord bare format text.now) (HasWordFault bare format text.now) }
     ensures wide { IfOk result IsWide }

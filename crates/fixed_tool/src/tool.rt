@@ -1,4 +1,4 @@
-//! What the program is.
+//! The program.
 
 use fixed_respell::run;
 use fixed_steps::Steps;
@@ -6,7 +6,7 @@ use line_engine::{Program, Sink, Source, Status};
 use std::alloc::Global;
 use std::sync::ledger::Ledger;
 
-/// The program: its run is the one of fixed_respell.
+/// The program. Its run is that of fixed_respell.
 #[derive(Clone, Copy)]
 pub struct FixedTool;
 

@@ -11,7 +11,7 @@ use std::marker::Brand;
 use std::process::ExitCode;
 use std::sync::ledger::{Blank, Ledger};
 
-/// Runs the program by the arguments and over the streams of its process.
+/// Runs the program with the arguments and the streams of its process.
 fn run_tool<L: Ledger>(rt: &HostRuntime, blank: Blank) -> u8
     requires name { blank.name ≡ L.name }
     requires parts { blank.parts ≡ L.parts }

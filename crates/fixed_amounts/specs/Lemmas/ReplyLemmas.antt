@@ -25,7 +25,7 @@ use Rattle.fixed_amounts.specs.declared.settings.AmountSettings.{AmountSettings}
 use Rattle.fixed_amounts.specs.declared.settings.AmountSpelling.{AmountSpelling}
 use Rattle.fixed_amounts.specs.declared.settings.AmountSpelling.TheVariants.{Numeral, Units}
 
-is_width : IsWidth 64
+pub is_width : IsWidth 64
 is_width = record { some = omega arith; most = omega arith }
 
 same_flag : (a b : Bool) (P : Type 0) → (IsTrue a ↔ P) → (IsTrue b ↔ P) → a ≡ b
@@ -41,7 +41,7 @@ number_one mode bytes n p q v w a b x y =
     let same : p ≡ q = parts_unique Dec bytes p q a.beginning b.beginning in
     read_decimal_unique mode q n v w (subst (λ r. IsReadDecimal mode r n v) same x) y
 
-read_as_one : (mode : ReadMode) (bytes : List ℕ) (n : ℕ) (policy : Policy) (v w : ℤ) (o u : Bool)
+pub read_as_one : (mode : ReadMode) (bytes : List ℕ) (n : ℕ) (policy : Policy) (v w : ℤ) (o u : Bool)
     → IsReadAs mode bytes n policy v o → IsReadAs mode bytes n policy w u → (v ≡ w) × (o ≡ u)
 read_as_one mode bytes n policy v w o u a b =
     let same : a.number ≡ b.number = number_one mode bytes n a.parts b.parts a.number b.number a.numeral b.numeral
@@ -55,15 +55,15 @@ amount_one : (spelling : AmountSpelling) (s : AmountSettings) (bytes : List ℕ)
 amount_one Numeral s bytes v w o u a b = read_as_one s.mode bytes s.format s.policy v w o u a b
 amount_one Units s bytes v w o u a b = (word_one Dec words bytes v w is_width a.0 b.0, a.1 ∙ sym b.1)
 
--- and are refused for one kind, or are not
-unread_one : (mode : ReadMode) (bytes : List ℕ) (n : ℕ) (policy : Policy) (k l : ParseErrorKind)
+-- bytes are refused for one kind at most, and then not read
+pub unread_one : (mode : ReadMode) (bytes : List ℕ) (n : ℕ) (policy : Policy) (k l : ParseErrorKind)
     → IsUnread mode bytes n policy k → IsUnread mode bytes n policy l → k ≡ l
 unread_one mode bytes n policy k l (inl a) (inl b) = one_cause Dec bytes k l a b
 unread_one mode bytes n policy k l (inl a) (inr b) = absurd (a.none (b.2.parts, b.2.numeral))
 unread_one mode bytes n policy k l (inr a) (inl b) = absurd (b.none (a.2.parts, a.2.numeral))
 unread_one mode bytes n policy k l (inr a) (inr b) = a.0 ∙ sym b.0
 
-read_or_not : (mode : ReadMode) (bytes : List ℕ) (n : ℕ) (policy : Policy) (v : ℤ) (o : Bool) (k : ParseErrorKind)
+pub read_or_not : (mode : ReadMode) (bytes : List ℕ) (n : ℕ) (policy : Policy) (v : ℤ) (o : Bool) (k : ParseErrorKind)
     → IsReadAs mode bytes n policy v o → IsUnread mode bytes n policy k → ⊥
 read_or_not mode bytes n policy v o k a (inl b) = b.none (a.parts, a.numeral)
 read_or_not mode bytes n policy v o k a (inr b) =

@@ -1,4 +1,4 @@
--- What is known while a list is read.
+-- The state while a list is read.
 use Rattle.std.specs.Prelude.{◌≡◌, ◌+◌, ℕ, ℤ, List, [], ◌++◌, length}
 use Rattle.line_engine.specs.Lines.{lines}
 use Rattle.fixed_arrays.specs.Answer.{AreElements, HasFault, IsElement, IsRefusedElement, frame_of}
@@ -9,20 +9,20 @@ use Rattle.fixed_arrays.specs.declared.fault.ArrayFault.TheVariants.{Empty, NoMe
 use Rattle.fixed_arrays.specs.declared.rule.ArrayRule.{ArrayRule}
 use Rattle.fixed_arrays.specs.declared.rule.Numerals.{Numerals}
 
--- the numbers of these lines, and the lines of their elements
+-- the numbers of these lines, and in `e` the lines written for them and their count
 pub record HasElements (r : ArrayRule) (some : List (List ℕ)) (e : Elements) : Type 0 where
   pub numbers : List ℤ
   pub elements : AreElements r.numerals some numbers
   pub text : e.text.items ≡ element_lines (frame_of r) 0 numbers
   pub count : e.count ≡ length some
 
--- the lines of an input that were read, before those that are left
+-- the lines of the input before `rest` have been read
 pub record HasReadTo (r : ArrayRule) (input rest : List ℕ) (e : Elements) : Type 0 where
   pub some : List (List ℕ)
   pub cut : lines input ≡ some ++ lines rest
   pub has : HasElements r some e
 
--- why there is no array: a fault of the list, or no memory
+-- why there is no array: a fault of the list, or lack of memory
 abbrev pub HasError : Numerals → List (List ℕ) → ArrayFault → Type 0
 HasError n all Empty = HasFault n all Empty
 HasError n all (Refused place kind) = HasFault n all (Refused place kind)
@@ -35,7 +35,7 @@ pub record PushesElement (r : ArrayRule) (line : List ℕ) (old new : Elements) 
   pub text : new.text.items ≡ old.text.items ++ element_line (frame_of r) old.count [] bits
   pub count : new.count ≡ old.count + 1
 
--- or the line, which has this number, was refused, or there was no memory
+-- the line, which has this number, was refused, or memory ran out
 abbrev pub RefusesElement : Numerals → List ℕ → ℕ → ArrayFault → Type 0
 RefusesElement n line number Empty = ⊥
 RefusesElement n line number (Refused place kind) = IsRefusedElement n line kind × (place ≡ number)

@@ -59,7 +59,7 @@ none_declared before (line ∷ more) f (inl d) (inl x) = x.fields.spoken d.0
 none_declared before (line ∷ more) f (inl d) (inr x) = none_declared (before ++ line ∷ []) more f d.1 x.1
 none_declared before (line ∷ more) f (inr d) x = absurd cc
 
--- the first of their formats is that of the first constant
+-- the first format of such lines is that of the first constant
 pub first_declared : (before all : List (List ℕ)) (c : ConstantParts) (rest : List ConstantParts) (f : FormatParts)
     → Declare before all (c ∷ rest) → HasFirstFormat all f → c.format ≡ f
 first_declared before [] c rest f d x = absurd x
@@ -71,13 +71,13 @@ first_declared before (line ∷ more) c rest f (inr d) (inl x) =
     ap (λ e. e.format) same ∙ format_one line d.0.format f (spelled_format line d.0 d.2.0) x
 first_declared before (line ∷ more) c rest f (inr d) (inr x) = absurd (x.0 d.0.format (spelled_format line d.0 d.2.0))
 
--- a line of this format is not the first of another, where none after it is
+-- a line of this format is not the first of another if no line after it is
 same_line : (n : ℕ) (f : FormatParts) (line : List ℕ) (more : List (List ℕ)) (c : ConstantParts) (p : ℕ)
     → HasFormat line c.format → c.format ≡ f → (OtherFrom (n + 1) f more p → ⊥) → OtherFrom n f (line ∷ more) p → ⊥
 same_line n f line more c p has same none (inl x) = x.0.2 (format_one line x.0.0 c.format x.0.1 has ∙ same)
 same_line n f line more c p has same none (inr x) = none x.1
 
--- constants of one format have no line of another
+-- lines that declare constants of one format have no line of another
 pub never_other : (n : ℕ) (before all : List (List ℕ)) (t : List ConstantParts) (f : FormatParts) (p : ℕ)
     → Declare before all t → AreOf f t → OtherFrom n f all p → ⊥
 never_other n before [] t f p d are x = x

@@ -45,7 +45,7 @@ read_or_not mode r bytes f policy v o k a (inr b) =
     b.1 a.image in
     has_none f.signed f.width b.2.number v b.2.out_of_range (subst (λ x. IsImage Checked f.signed f.width x v) n image)
 
--- and refused for one reason
+-- a refused numeral is refused for one reason
 pub unread_one : (mode : ReadMode) (r : Radix) (bytes : List ℕ) (f : FormatParts) (policy : Policy)
     (k l : ParseErrorKind) → IsUnread mode r bytes f policy k → IsUnread mode r bytes f policy l → k ≡ l
 unread_one mode r bytes f policy k l (inl a) (inl b) = one_cause r bytes k l a b

@@ -1,4 +1,4 @@
--- A text of a column is the only one, and an input has one answer.
+-- A column has one text, and an input has one answer.
 use Rattle.std.specs.Prelude.{◌≡◌, ℕ, Bool, List, [], ◌∷◌, ◌++◌}
 use Rattle.std.proofs.Common.{sym, ap, ◌∙◌, inl, inr, subst}
 use Rattle.fixed_laws.proofs.Public.{styled_text_unique}
@@ -9,7 +9,7 @@ use Rattle.line_engine.specs.AnswerText.{AnswerText}
 use Rattle.line_engine.specs.Lines.{lines}
 use Rattle.fixed_columns.specs.Answer.{IsColumnAnswer, IsWholeAnswer, column_style, fault_line}
 use Rattle.fixed_columns.specs.Cells.{CellParts, HoldsAsOften}
-use Rattle.fixed_columns.specs.CellsText.{IsCellsText, IsRow}
+use Rattle.fixed_columns.specs.ColumnText.{IsColumnText, IsRow}
 use Rattle.fixed_columns.specs.Lemmas.RowLemmas.{fail_one, not_both, spell_one}
 use Rattle.fixed_columns.specs.Lemmas.SortedLemmas.{both_sorted}
 
@@ -20,8 +20,8 @@ row_one style c a b x y =
     in
     x.text ∙ (ap (λ (n : List ℕ). n ++ space ∷ format_text c.format) same ∙ sym y.text)
 
-pub column_one : (style : Style) (cells : List CellParts) (a b : List ℕ) → IsCellsText style cells a
-    → IsCellsText style cells b → a ≡ b
+pub column_one : (style : Style) (cells : List CellParts) (a b : List ℕ) → IsColumnText style cells a
+    → IsColumnText style cells b → a ≡ b
 column_one style [] a b x y = x ∙ sym y
 column_one style (c ∷ cells) a b x y =
     let row : x.0 ≡ y.0 = row_one style c x.0 y.0 x.2 y.2 in
@@ -41,7 +41,7 @@ column_answer_one input a b x y =
     let H : List CellParts → Type 0 = λ t. HoldsAsOften t x.sorted in
     let sorted : x.sorted ≡ y.sorted = both_sorted y.cells x.sorted y.sorted
     (subst H cells x.same) y.same x.order y.order in
-    let C : List CellParts → Type 0 = λ t. IsCellsText column_style t a.text in
+    let C : List CellParts → Type 0 = λ t. IsColumnText column_style t a.text in
     column_one column_style y.sorted a.text b.text (subst C sorted x.text) y.text
 
 pub answer_one : (input : List ℕ) (a b : AnswerText) → IsWholeAnswer input a → IsWholeAnswer input b → a ≡ b

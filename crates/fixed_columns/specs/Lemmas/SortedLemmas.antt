@@ -1,4 +1,4 @@
--- A list of cells in order is determined by how often it holds each cell.
+-- A list of cells in order is determined by how often it contains each cell.
 use Rattle.std.specs.Prelude.{◌≡◌, ◌+◌, ◌<◌, ℕ, suc, Bool, false, cond, List, [], ◌∷◌, length, get_or}
 use Rattle.std.proofs.Common.{refl, sym, ap, ◌∙◌, subst, arith}
 use Rattle.std.specs.Cmp.{IsStrictWeakOrder}
@@ -21,7 +21,7 @@ times_head x xs =
     let O : Ordering → ℕ = λ o. cond (is_eq o) 1 0 + times x xs in
     times_cons x x xs ∙ ap O (itself x)
 
--- a cell that occurs is at a place
+-- a cell that occurs has an index
 pub record IsAt (c : CellParts) (xs : List CellParts) : Type 0 where
   pub place : ℕ
   pub below : place < length xs
@@ -93,7 +93,7 @@ sorted_one (x ∷ xs) (y ∷ ys) same up vp =
     let C : CellParts → List CellParts → List CellParts = λ z zs. z ∷ zs in
     ap (λ z. C z xs) first ∙ ap (λ zs. C y zs) tail
 
--- two lists in order that hold what one list holds are one
+-- two lists in order with the cells of one list are the same
 pub both_sorted : (cells xs ys : List CellParts) → HoldsAsOften cells xs → HoldsAsOften cells ys → IsInOrder xs
     → IsInOrder ys → xs ≡ ys
 both_sorted cells xs ys a b up vp = let same : HoldsAsOften xs ys = λ c. b c ∙ sym (a c) in sorted_one xs ys same up vp

@@ -135,7 +135,7 @@ by_head_one before name equals literal word r s a b =
     (by_test_one (equals ≡ equals_sign) (Err MissingEquals) (ByFormat before name literal word)
     (by_format_one before name literal word)) r s a b
 
--- two ways to split a line are one
+-- two ways to split a line are the same
 pub record IsSameFields (line : List ℕ) (x y : Fields line) : Type 0 where
   pub name : x.name ≡ y.name
   pub equals : x.equals ≡ y.equals

@@ -1,4 +1,4 @@
--- A line has one name, and one line is the first that names it.
+-- A line has one name, and a name has one first line.
 use Rattle.std.proofs.Common.{◌≡◌, ℕ, ◌+◌, List, [], ◌∷◌, sym, ◌∙◌, subst, inl, inr}
 use Rattle.fixed_respell.specs.LineWords.{space}
 use Rattle.fixed_respell.specs.Lemmas.SplitLemmas.{split_is_one}

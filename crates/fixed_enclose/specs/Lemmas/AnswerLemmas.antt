@@ -45,7 +45,7 @@ refusals t a b x y = x.answer_is ∙ (ap (λ k. fault_answer (message_of k))
 refused_or_not : (t : Task) (a b : AnswerText) → IsRefusalAnswer t a → IsEnclosedAnswer t b → ⊥
 refused_or_not t a b x y = refusal_none t.radix t.numeral t.format y.lo y.hi x.kind y.enclosed x.refusal
 
--- whether two numbers are equal is decided
+-- two verdicts on the same two numbers are the same
 verdict_one : (a b : Bool) (lo hi lo' hi' : ℤ) → lo ≡ lo' → hi ≡ hi' → (IsTrue a ↔ (lo ≡ hi)) → (IsTrue b ↔ (lo' ≡ hi'))
     → a ≡ b
 verdict_one true true lo hi lo' hi' e f x y = refl

@@ -1,4 +1,4 @@
--- Enclosures: from one reading in mode Floor, and that there is one.
+-- The enclosure from one reading in mode Floor, and its uniqueness.
 use Rattle.std.proofs.Common.{◌≡◌, ℕ, ◌*◌, ◌^◌, ◌≤◌, ◌<◌, ◌↔◌, Bool, true, false, IsTrue, List, take, slice_get, refl}
 use Rattle.std.proofs.Common.{sym, ap, ◌∙◌, subst, arith, inl, inr, ⊎_elim, ℤ, pos, neg_ℤ, ◌+ℤ◌, ◌*ℤ◌, ◌≤ℤ◌}
 use Rattle.std.specs.Prelude.{if◌then◌else◌, ◌-ℤ◌, ◌<ℤ◌}
@@ -31,7 +31,7 @@ before_times a m =
     omega (arith, ints, s)
 
 -- ---- from one reading in mode Floor
--- a multiple of the denominator is rounded to its factor, in both directions
+-- rounding in either direction takes a multiple of the denominator to its factor
 down_exact : (m den q k : ℕ) → 0 < den → IsRounded TowardsZero false m den q → m ≡ k * den → m ≡ q * den
 down_exact m den q k some h e =
     let itself : IsRounded TowardsZero false m den k = record
@@ -46,7 +46,7 @@ up_exact m den q k some h e =
     } in
     e ∙ ap (λ x. x * den) (rounded_unique Ceil false m den k q some itself h)
 
--- hi is lo where the value is whole, else the next
+-- hi is lo if the value is whole, else the next number
 abbrev pub upper : Bool → ℤ → ℤ
 upper whole lo = if whole then lo else (lo +ℤ pos 1)
 
@@ -108,7 +108,7 @@ encloses_of r p f lo whole read is =
 pub parts_one : (r : Radix) (bytes : List ℕ) (p q : Parts) → HasNumeral r bytes p → HasNumeral r bytes q → p ≡ q
 parts_one r bytes p q a b = parts_unique r bytes p q a.beginning b.beginning
 
--- ---- none is tighter, and there is one
+-- ---- no enclosure is tighter, and there is only one
 pub not_past : (y : ℤ) (den : ℕ) (a b : ℤ) → (a *ℤ pos den) ≤ℤ y → y <ℤ ((b +ℤ pos 1) *ℤ pos den) → a ≤ℤ b
 not_past y den a b low next =
     let mid : (a *ℤ pos den) <ℤ ((b +ℤ pos 1) *ℤ pos den) = omega (arith, ints) in
@@ -160,7 +160,7 @@ exact y den lo hi h = (to, back)
         let high : y ≤ℤ (lo *ℤ pos den) = omega (arith, ints, e) in
         both lo hi (in_order y den lo hi h) (tightest y den lo hi lo lo h h.low high).1
 
--- ---- what bytes have, whose parts are determined
+-- ---- the enclosure of bytes, whose parts are determined
 pub enclosed_one : (r : Radix) (bytes : List ℕ) (format : FormatParts) (lo hi a b : ℤ) → IsEnclosed r bytes format lo hi
     → IsEnclosed r bytes format a b → (lo ≡ a) × (hi ≡ b)
 enclosed_one r bytes format lo hi a b x y =

@@ -1,4 +1,4 @@
--- The faults of a line, in the order in which they are looked for.
+-- The faults of a line, in the order of the checks.
 use Rattle.std.proofs.Common.{◌≡◌, ℕ, ◌+◌, ◌<◌, ◌≤◌, List, [], ◌∷◌, length, refl, sym, ap, ◌∙◌, arith, if◌then◌else◌}
 use Rattle.std.proofs.Common.{◌==◌}
 use Rattle.fixed_bits.specs.Formats.{FormatParts}
@@ -47,7 +47,7 @@ first : (line : List ℕ) (f : EncloseFault) (n : ℕ) → fault_rank f ≡ n �
     → IsFirstFault f line
 first line f n is has before = first_is EncloseFault fault_rank (λ f. HasFault f line) f n is has before
 
--- what a line has whose first words were read so far
+-- a line whose first words were read has none of the faults before
 short_line : (line : List ℕ) → length line ≤ longest_line → NoFaultBefore 1 line
 short_line line short = after line LineTooLong 0 refl (λ long. omega (arith, short, long))
     (none_at_first EncloseFault fault_rank (λ f. HasFault f line))

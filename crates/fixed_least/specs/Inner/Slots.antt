@@ -1,12 +1,12 @@
--- The first places whose numerals formats do not hold, in slots: 65 for each of the eight pairs of a width and a sign
--- rule.
+-- For each format, the first place whose numeral it does not hold, in slots: 65 for each of the eight pairs of a width
+-- and a sign rule.
 use Rattle.std.specs.Prelude.{◌≡◌, ◌⊎◌, ◌↔◌, ◌+◌, ◌*◌, ◌%◌, ◌<◌, ◌≤◌, ◌==◌, ℕ, Bool, true, false, List, Option, get_or}
 use Rattle.std.specs.Prelude.{if◌then◌else◌, nat_lt}
 use Rattle.fixed_bits.specs.Formats.{FormatParts, IsTypeFormat}
 use Rattle.fixed_least.specs.Inner.Valued.{HasValue}
 use Rattle.fixed_least.specs.declared.exact.Exact.{Exact}
 
--- the width and the sign rule of a kind: the kinds are in the order of formats
+-- the width and the sign rule of a kind; the kinds are in the order of formats
 abbrev pub kind_width : ℕ → ℕ
 kind_width j = if nat_lt j 2 then 8 else (if nat_lt j 4 then 16 else (if nat_lt j 6 then 32 else 64))
 
@@ -32,7 +32,7 @@ slot j k = j * 65 + k
 abbrev pub slot_of : FormatParts → ℕ
 slot_of f = slot (kind_of f.signed f.width) f.frac
 
--- the formats of a kind without a place are those with a fraction length from `low` on and below `high`
+-- the formats of a kind without a place are those with a fraction length from `low` on, below `high`
 abbrev pub IsLiving : ℕ → ℕ → ℕ → List ℕ → Type 0
 IsLiving j low high slots = (k : ℕ) → k ≤ kind_width j → ((low ≤ k) × (k < high)) ↔ (get_or slots (slot j k) 0 ≡ 0)
 
@@ -42,14 +42,14 @@ pub record AreLiving (slots lows highs : List ℕ) : Type 0 where
   pub most : (j : ℕ) → j < 8 → get_or highs j 0 ≤ kind_width j + 1
   pub living : (j : ℕ) → j < 8 → IsLiving j (get_or lows j 0) (get_or highs j 0) slots
 
--- what a value at a place leaves of a format's slot: the old place where there is one, else none where the format has
--- the value, else this place
+-- a format's slot after the value at a place: the old place if there is one, else none if the format has the value,
+-- else this place
 abbrev pub IsNoted : FormatParts → Option Exact → ℕ → ℕ → ℕ → Type 0
 IsNoted f value place old new = ((old ≡ 0 → ⊥) × (new ≡ old))
     ⊎ (((old ≡ 0) × HasValue f value × (new ≡ 0))
     ⊎ ((old ≡ 0) × (HasValue f value → ⊥) × (new ≡ place)))
 
--- what a value at a place leaves of the slots of all formats
+-- the slots of all formats after the value at a place
 abbrev pub AreNoted : Option Exact → ℕ → List ℕ → List ℕ → Type 0
 AreNoted value place old new = (f : FormatParts) → IsTypeFormat f.width f.frac
     → IsNoted f value place (get_or old (slot_of f) 0) (get_or new (slot_of f) 0)

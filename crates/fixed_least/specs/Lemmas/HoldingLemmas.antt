@@ -1,4 +1,4 @@
--- A value in ulps of 2^-64 decides for each format whether it holds a numeral of this value.
+-- A value in ulps of 2^-64 decides for each format whether it holds a numeral with this value.
 use Rattle.std.proofs.Common.{◌≡◌, ℕ, ◌+◌, ◌-◌, ◌*◌, ◌^◌, ◌<◌, ◌≤◌, ◌↔◌, Bool, sym, ap, ◌∙◌, subst, arith, pow_pos, inl}
 use Rattle.std.proofs.Common.{inr}
 use Rattle.std.proofs.Math.Nat.{le_of_mul-le-mul_left}
@@ -13,7 +13,7 @@ use Rattle.fixed_bits.specs.Numbers.{with_sign}
 use Rattle.fixed_least.specs.Inner.Exact.{HasUlps, IsExact}
 use Rattle.fixed_least.specs.Holding.{Holds}
 
--- a factor is taken off both sides
+-- a common factor cancels
 pub cancel : (k a b : ℕ) → 0 < k → a * k ≡ b * k → a ≡ b
 cancel k a b some e =
     let le : a ≤ b = le_of_mul-le-mul_left {k = k} (omega (arith, e)) some in

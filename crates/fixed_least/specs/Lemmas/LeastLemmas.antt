@@ -24,7 +24,7 @@ use Rattle.fixed_bits.specs.Order.{rank}
 use Rattle.fixed_least.specs.declared.least.LeastFault.{LeastFault}
 use Rattle.fixed_least.specs.declared.least.LeastFault.TheVariants.{NotNumeral}
 
--- a format that does not hold a line does not hold each
+-- a format that does not hold a line does not hold all lines
 line_of : (r : Radix) (f : FormatParts) (before : List (List ℕ)) (line : List ℕ) (after : List (List ℕ))
     → AllHold r f (before ++ line ∷ after) → HoldsLine r f line
 line_of r f [] line after all = all.0
@@ -69,7 +69,7 @@ least_one r lines places least f is = (to, back)
         (cases_lt (rank f) (length places))
 
 -- ---- an input has one answer
--- two first lines that something does not hold of
+-- a list has only one split at its first bad line
 record IsSameSplit (before before' : List (List ℕ)) (line line' : List ℕ) : Type 0 where
   before_is : before ≡ before'
   line_is : line ≡ line'
@@ -132,7 +132,7 @@ places_one r lines a b x y =
     place_one r g.0 lines (get_or a k 0) (get_or b k 0) (subst A g.2 (x.refutes g.0 g.1 (omega (arith, g.2, low))))
     (subst B g.2 (y.refutes g.0 g.1 (omega (arith, g.2, low, level)))))
 
--- ---- what is written about it
+-- ---- the text about it
 answer_text_is : (a b : AnswerText) → a.text ≡ b.text → a.fault ≡ b.fault → a ≡ b
 answer_text_is a b t f =
     let R : List ℕ → Bool → AnswerText = λ x y. record { text = x; fault = y } in
@@ -178,7 +178,7 @@ numeral_of r (first ∷ before) line after all = numeral_of r before line after 
 abbrev IsRefused : Radix → List ℕ → Type 0
 IsRefused r line = (kind : ParseErrorKind) × HasCause r line kind
 
--- a list has one first line that is no numeral, and it has one cause
+-- a list has one first line that is not a numeral, with one cause
 fault_parts_one : (r : Radix) (lines : List (List ℕ)) (a b : LeastFault) → IsNoNumeral r lines a
     → IsNoNumeral r lines b → (place_of a ≡ place_of b) × (kind_at a ≡ kind_at b)
 fault_parts_one r lines a b x y =

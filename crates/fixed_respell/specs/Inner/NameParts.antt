@@ -1,4 +1,4 @@
--- What is left of a format's name after its letters.
+-- The rest of a format's name after its letters.
 use Rattle.std.specs.Prelude.{◌≡◌, ◌⊎◌, ◌+◌, ◌-◌, ◌<◌, ◌≤◌, ℕ, Bool, true, false, List, ◌∷◌, ◌++◌, decimal}
 use Rattle.fixed_bits.specs.Formats.{FormatParts, IsFormat}
 use Rattle.fixed_respell.specs.FormatNames.{IsLetter, point, q_letter}
@@ -20,7 +20,7 @@ pub record IsCounted (signed : Bool) (rest : List ℕ) (f : FormatParts) : Type 
   pub is_mark : IsLetter fraction_letter mark
   pub text : rest ≡ counts_text mark f
 
--- the same where there are no fewer than zero whole bits
+-- the same if the count of whole bits is not negative
 pub record IsCountedWithin (signed : Bool) (rest : List ℕ) (f : FormatParts) : Type 0 where
   pub is : IsSigned signed f
   pub within : f.frac ≤ f.width
@@ -28,7 +28,7 @@ pub record IsCountedWithin (signed : Bool) (rest : List ℕ) (f : FormatParts) :
   pub is_mark : IsLetter fraction_letter mark
   pub text : rest ≡ two_counts mark (f.width - f.frac) f.frac
 
--- after a minus: by how many bits the fraction is longer than the width, F, fraction bits
+-- after a minus: the bits by which the fraction is longer than the width, F, fraction bits
 pub record IsCountedBeyond (signed : Bool) (rest : List ℕ) (f : FormatParts) : Type 0 where
   pub is : IsSigned signed f
   pub beyond : f.width < f.frac
@@ -57,7 +57,7 @@ pub record IsPointedByQ (rest : List ℕ) (f : FormatParts) : Type 0 where
   pub head : rest ≡ q ∷ counts
   pub pointed : IsPointed false counts f
 
--- what is left of a name after I, after Q and after U
+-- the rest of a name after Q, and after U
 abbrev pub IsAfterQ : List ℕ → FormatParts → Type 0
 IsAfterQ rest f = IsPointed true rest f ⊎ IsFraction rest f
 

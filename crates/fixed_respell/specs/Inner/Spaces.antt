@@ -11,7 +11,7 @@ pub record HasSpaces (line : List ℕ) (mask : ℕ) : Type 0 where
   pub few : count ≤ 32
   pub mask_is : mask ≡ mask_l (map (λ x. x == space) (take count line))
 
--- the first space is at this place, and the rest of the mask says where spaces are after it
+-- the first space is at index `place`, and `rest` is the mask of the bytes after it
 pub record IsFirstSpace (line : List ℕ) (mask place rest : ℕ) : Type 0 where
   pub within : place < length line
   pub few : place < 32

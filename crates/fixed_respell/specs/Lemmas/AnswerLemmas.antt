@@ -38,7 +38,7 @@ use Rattle.fixed_respell.specs.Lemmas.WordLemmas.{no_slash}
 use Rattle.fixed_write.specs.Texts.{IsShortestText}
 use Rattle.fixed_write.proofs.Public.{shortest_text_unique}
 
--- ---- words name one thing: one byte of each says which
+-- ---- a word names one thing: one byte of it says which
 first_byte : List ℕ → ℕ
 first_byte word = get_or word 0 0
 
@@ -115,7 +115,7 @@ pub policy_word_one : (word : List ℕ) (p q : Policy) (m k : ReadMode) → IsPo
     → (p ≡ q) × (m ≡ k)
 policy_word_one word p q m k a b = policy_name_one word p q m k (word_is_name word p m a) (word_is_name word q k b)
 
--- and one format
+-- a word names one format
 abbrev parts : Bool → ℕ → ℕ → FormatParts
 parts s w r = record { signed = s; width = w; frac = r }
 
@@ -156,7 +156,7 @@ refused_or_not : (t : Task) (a b : AnswerText) → IsRefusalAnswer t a → IsRes
 refused_or_not t a b x y = refusal_none t.mode t.radix t.numeral t.policy t.source t.target x.kind y.bits y.overflowed
     x.refusal y.respelled
 
--- ---- a line has one answer, whichever relations tell what a word names, if a word names one at most
+-- ---- a line has one answer, for all relations that tell what a word names, if a word names at most one thing
 module _ (Names : List ℕ → FormatParts → Type 0) (one_format : (word : List ℕ) (f g : FormatParts) → Names word f
     → Names word g → f ≡ g) (valid : (word : List ℕ) (f : FormatParts) → Names word f → IsFormat f.width f.frac)
     (NamesPolicy : List ℕ → Policy → ReadMode → Type 0) (one_policy : (word : List ℕ) (p q : Policy) (m k : ReadMode)

@@ -1,4 +1,4 @@
--- The faults of a line, in the order in which they are looked for.
+-- The faults of a line, in the order of the checks.
 use Rattle.std.proofs.Common.{◌≡◌, ℕ, ◌<◌, ◌≤◌, List, [], ◌∷◌, length, refl, sym, ap, ◌∙◌, arith, if◌then◌else◌}
 use Rattle.std.proofs.Common.{◌==◌, subst}
 use Rattle.fixed_bits.specs.Formats.{FormatParts}
@@ -33,7 +33,7 @@ back BadPolicy = refl
 pub faults_apart : RanksTellApart LineFault fault_rank
 faults_apart f g e = sym (back f) ∙ (ap fault_at e ∙ back g)
 
--- ---- whichever relations tell which format a word names, and which policy and mode
+-- ---- for all relations that tell which format a word names, and which policy and mode
 module _ (Names : List ℕ → FormatParts → Type 0) (NamesPolicy : List ℕ → Policy → ReadMode → Type 0) where
   -- a line that asks for a task has no fault
   pub no_fault : (line : List ℕ) (t : Task) (f : LineFault) → AsksBy Names NamesPolicy line t
@@ -48,7 +48,7 @@ module _ (Names : List ℕ → FormatParts → Type 0) (NamesPolicy : List ℕ �
   no_fault line t BadPolicy asks bad = not_bad 4 3 (NamesSome NamesPolicy) line _ t.numeral asks.words refl
       (t.policy, t.mode, asks.policy) bad
 
-  -- a line whose first words were read so far has no fault of a lower rank
+  -- a line whose first words were read has no fault of a lower rank
   none_before : (line r s t p n : List ℕ) (k : ℕ) → length line ≤ longest_line → HasWords line (r ∷ s ∷ t ∷ p ∷ []) n
       → k ≤ 5 → (2 < k → NamesRadix r) → (3 < k → NamesFormatBy Names s) → (4 < k → NamesFormatBy Names t)
       → (f : LineFault) → fault_rank f < k → HasFaultBy Names NamesPolicy f line → ⊥

@@ -13,11 +13,11 @@ use Rattle.fixed_respell.specs.Split.{count_of}
 use Rattle.fixed_respell.specs.Words.{counts_text, fraction_letter, sign_letter}
 use Rattle.fixed_respell.specs.Lemmas.SplitLemmas.{count_cons}
 
--- a byte that is no digit
+-- a byte that is not a digit
 abbrev pub IsNoDigit : ℕ → Type 0
 IsNoDigit b = (b < 48) ⊎ (57 < b)
 
--- no digit is such a byte
+-- such a byte does not equal a digit
 pub no_digit_is : (b c : ℕ) → IsNoDigit b → 48 ≤ c → c ≤ 57 → b ≡ c → ⊥
 no_digit_is b c (inl less) low high e = omega (arith, e, less, low)
 no_digit_is b c (inr more) low high e = omega (arith, e, more, high)

@@ -33,7 +33,7 @@ answer_in_one L definite line a b (inl x) (inr y) = absurd (definite.no_fault li
 answer_in_one L definite line a b (inr x) (inl y) = absurd (definite.no_fault line x.task y.fault x.asks y.first.has)
 answer_in_one L definite line a b (inr x) (inr y) = tasks L definite line a b x y
 
--- where every line that is too long has the same answer, it is answered like each prefix that is too long
+-- if all lines that are too long have the same answer, each is answered like its prefixes that are too long
 carried : (A : List ℕ → AnswerText → Type 0) (long : AnswerText)
     → ((line : List ℕ) (a b : AnswerText) → A line a → A line b → a ≡ b)
     → ((line : List ℕ) → longest_line < length line → A line long)

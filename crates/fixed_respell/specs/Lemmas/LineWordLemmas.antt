@@ -1,4 +1,4 @@
--- A line has its words in one way, and a first fault is the one first fault.
+-- A line has its words in one way, and at most one first fault.
 use Rattle.std.proofs.Common.{◌≡◌, ℕ, ◌+◌, ◌<◌, ◌≤◌, List, [], ◌∷◌, length, get_or, refl, sym, ap, ◌∙◌, subst}
 use Rattle.std.proofs.Common.{arith, inl, inr}
 use Rattle.std.proofs.lemmas.Bool.{cases_lt}
@@ -6,7 +6,7 @@ use Rattle.fixed_respell.specs.LineWords.{HasWords, HaveNoSpace, HasBadWord, IsF
 use Rattle.fixed_respell.specs.Split.{count_of, IsSplit}
 use Rattle.fixed_respell.specs.Lemmas.SplitLemmas.{same_split, count_one}
 
--- two ways to have words are one
+-- two ways to have words are the same
 pub record AreSameWords (v w : List (List ℕ)) (rest rest' : List ℕ) : Type 0 where
   pub words : v ≡ w
   pub rests : rest ≡ rest'
@@ -58,7 +58,7 @@ not_bad count place IsOfKind line words rest has n is bad =
     let same = words_one line words bad.words rest bad.rest has bad.has (n ∙ sym bad.count_is) in
     bad.bad (subst (λ ws. IsOfKind (get_or ws place [])) same.words is)
 
--- a first fault is the one, where ranks tell faults apart
+-- there is at most one first fault if ranks tell faults apart
 abbrev pub RanksTellApart : (Fault : Type 0) (rank : Fault → ℕ) → Type 0
 RanksTellApart Fault rank = (f g : Fault) → rank f ≡ rank g → f ≡ g
 
@@ -73,7 +73,7 @@ first_one Fault rank Has apart f g a b =
       ]
     ]
 
--- none of the faults of a rank below n is there
+-- no fault has a rank below n
 abbrev pub NoneBefore : (Fault : Type 0) (rank : Fault → ℕ) (Has : Fault → Type 0) → ℕ → Type 0
 NoneBefore Fault rank Has n = (f : Fault) → rank f < n → Has f → ⊥
 

@@ -1,4 +1,4 @@
--- What is reached is the one.
+-- At most one pair of bits and a flag is reached.
 use Rattle.std.proofs.Common.{◌≡◌, ℕ, List, sym, ◌∙◌}
 use Rattle.std.proofs.Common.{⊎_elim, ℤ, inl, inr}
 use Rattle.std.proofs.lemmas.Bool.Decides.{same_from_decides}

@@ -1,9 +1,9 @@
--- Bytes are split at the first byte of a kind in one way.
+-- Bytes are split at the first byte with a given value in one way.
 use Rattle.std.proofs.Common.{◌≡◌, ℕ, ◌+◌, cond, eqb, List, [], ◌∷◌, ◌++◌, refl, sym, ap, ◌∙◌, arith, eq-eqb}
 use Rattle.std.proofs.lemmas.List.Sums.{sum_by-append}
 use Rattle.fixed_respell.specs.Split.{count_of, IsSplit}
 
--- two splits are one
+-- two splits are the same
 pub record IsSameSplit (xs ys rest rest' : List ℕ) : Type 0 where
   pub before : xs ≡ ys
   pub after : rest ≡ rest'
@@ -43,6 +43,6 @@ pub split_is_one : (b : ℕ) (bytes xs rest ys rest' : List ℕ) → IsSplit b b
     → IsSameSplit xs ys rest rest'
 split_is_one b bytes xs rest ys rest' p q = same_split b xs ys rest rest' (sym p.split ∙ q.split) p.first q.first
 
--- bytes without b have none
+-- bytes without b have no split
 pub split_has_one : (b : ℕ) (bytes xs rest : List ℕ) → bytes ≡ xs ++ b ∷ rest → count_of b bytes ≡ 0 → ⊥
 split_has_one b bytes xs rest e none = omega (arith, ap (count_of b) e, none, count_one b xs rest)

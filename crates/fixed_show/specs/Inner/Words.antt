@@ -1,4 +1,4 @@
--- What the digits of a word spell.
+-- The number that the digits of a word spell.
 use Rattle.std.specs.Prelude.{◌≡◌, ℕ, min, false, true, List, []}
 use Rattle.std.specs.Str.Parse.{AllDigits}
 use Rattle.fixed_numeral.specs.Numeral.{base}
@@ -8,13 +8,13 @@ use Rattle.fixed_show.specs.declared.words.WordFault.{WordFault}
 use Rattle.fixed_show.specs.declared.words.WordFault.TheVariants.{MisplacedUnderscore, InvalidDigit, NoDigits}
 use Rattle.fixed_show.specs.declared.words.WordFault.TheVariants.{TooWide, OutOfRange}
 
--- the text spells a number, and c is that cut off at 2^64
+-- the text spells a number, and `c` is that number or 2^64, whichever is less
 pub record IsCutOff (bare : Radix) (text : List ℕ) (c : ℕ) : Type 0 where
   pub number : ℕ
   pub spells : IsWordText bare text number
   pub cut : c ≡ min number 18446744073709551616
 
--- fault says why a text without a sign spells none
+-- `fault` says why a text without a sign spells no number
 abbrev pub IsUnspelled : Radix → List ℕ → WordFault → Type 0
 IsUnspelled bare text MisplacedUnderscore = begins_with_underscore text ≡ true
 IsUnspelled bare text InvalidDigit = (begins_with_underscore text ≡ false)

@@ -21,11 +21,11 @@ use Rattle.fixed_write.specs.Texts.{decimal_text, fraction_part, last_digits, po
 use Rattle.fixed_respell.proofs.ExampleLemmas.{answered, asks, by_two, overflows, plain}
 use Rattle.fixed_respell.proofs.laws.worked_answers.Goals as goal
 
--- equal bytes have equal bytes at a place
+-- equal lists have equal bytes at an index
 at_place : (i : ℕ) {xs ys : List ℕ} → xs ≡ ys → get_or xs i 0 ≡ get_or ys i 0
 at_place i e = ap (λ l. get_or l i 0) e
 
--- ---- 1_0, no numeral: '_' is no digit
+-- ---- 1_0 is not a numeral: '_' is not a digit
 abbrev whole_parts : Option ℕ → List ℕ → Option (List ℕ) → Option Exponent → Parts
 whole_parts s w f x = record { sign = s; whole = w; fraction = f; exponent = x }
 
@@ -74,7 +74,7 @@ cause_1_0 = record {
   is_kind = refl;
 }
 
--- ---- no radix is 9
+-- ---- 9 is not a radix
 no_radix : (r : Radix) → ¬ (codes "9" ≡ radix_text r)
 no_radix Bin e = let first : 57 ≡ 50 = at_place 0 e in omega (arith, first)
 no_radix Oct e = let first : 57 ≡ 56 = at_place 0 e in omega (arith, first)

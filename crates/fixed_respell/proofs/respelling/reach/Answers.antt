@@ -3,7 +3,7 @@ use Rattle.std.proofs.lemmas.Bool.{false≢true}
 use Rattle.fixed_bits.specs.Down.{down}
 use Rattle.fixed_bits.specs.Images.{IsImage, IsOutOfRangeBy}
 use Rattle.fixed_bits.specs.Numbers.{IsNumber, number_of_image}
-use Rattle.fixed_bits.proofs.Public.{width_most}
+use Rattle.fixed_bits.proofs.Public.{in_wide, width_most}
 use Rattle.fixed_respell.specs.Lemmas.ReachedLemmas.{refusal_none}
 use Rattle.fixed_respell.proofs.ReachLemmas.{IsRead, read_of, refused, respelled}
 use Rattle.fixed_respell.proofs.respelling.reach.Goals as goal
@@ -40,6 +40,12 @@ returns-clause-reached g c =
     let source_image = source.ensures.image is.number holds (λ w. absurd (false≢true (sym c.if-is_refused.false ∙ c.is_refused.ensures.1 (w.0, inl w.1)))) in
     let target_image : IsImage t.policy t.target.signed t.target.width (down in_source t.source.frac t.target.frac) (number_of_image target.result) = rw c.frac-source_frac.ensures.frac at (target.ensures.image (λ w. absurd (false≢true (sym c.if-is_refused.false ∙ c.is_refused.ensures.1 (w.0, inr w.1))))) in
     respelled t.mode t.radix t.numeral.now t.policy t.source t.target found.found in_source (number_of_image target.result) source.result.is_out_of_range target.result.is_out_of_range c.is_either.result is source_image (source.ensures.flag is.number holds) target_image out c.is_either.ensures
+
+pub returns-clause-wide : goal.returns-clause-wide
+returns-clause-wide g c =
+    let f = c.args.task.now.target in
+    let target = c.reformat_signed-reached in
+    in_wide f.signed f.width (number_of_image target.result) (width_most f.width target.ensures.valid.is_width) target.ensures.range
 
 pub returns-clause-ok : goal.returns-clause-ok
 returns-clause-ok g c = ((λ _. (_, c.is_either.result, returns-clause-reached g c)), λ _. refl)

@@ -3,7 +3,7 @@ use Rattle.std.specs.Fmt.{decimal}
 use Rattle.std.proofs.lemmas.Fmt.{length-decimal-le}
 use Rattle.fixed_respell.proofs.words.push_count.Goals as goal
 
--- what holds of an `Ok` holds where it is one
+-- a fact about an `Ok` holds if the result is `Ok`
 on_ok : {T E : Type 0} (r : Result T E) (P : Type 0) → IsOk r → OnOk r P → P
 on_ok (Ok x) P is holds = holds
 on_ok (Err e) P is holds = let no : ⊥ = cc in absurd no

@@ -1,7 +1,7 @@
 use Rattle.std.proofs.Common.{ℤ, FitsSigned, rules, refl}
 use Rattle.std.specs.Int.{w128}
 use Rattle.std.proofs.lemmas.Int.{to_z-of_z}
-use Rattle.fixed_show.proofs.ShowLemmas.{read_as, unread}
+use Rattle.fixed_show.proofs.ShowLemmas.{read_as, read_exact, unread}
 use Rattle.fixed_show.proofs.show.read_shown.Goals as goal
 
 pub returns-in-Some-clause-read : goal.returns-in-Some-clause-read
@@ -15,3 +15,6 @@ pub returns-in-None-clause-unread : goal.returns-in-None-clause-unread
 returns-in-None-clause-unread g c =
     let p = c.in-Ok.ensures.reading.numeral.0 refl in
     unread c.args.mode c.args.radix c.args.text.now c.args.format c.args.policy p.0 c.in-Ok.found c.new.result p.1 (c.in-Ok.ensures.reading.read p.0 p.1) c.in-Ok.ensures.format c.new.ensures (λ v h. (c.in-None.ensures.none v h).0 refl)
+
+pub returns-in-Some-clause-exact : goal.returns-in-Some-clause-exact
+returns-in-Some-clause-exact g c = read_exact c.args.mode c.args.radix c.args.text.now c.args.format c.in-Ok.found c.is_exact.result c.in-Ok.ensures.reading.read c.in-Ok.ensures.format c.is_exact.ensures

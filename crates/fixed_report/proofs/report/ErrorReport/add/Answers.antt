@@ -1,34 +1,50 @@
-use Rattle.std.proofs.Common.{◌≡◌, ◌≤◌, ◌⊎◌, length, [], ◌∷◌, ◌++◌, List, false, refl, sym, ◌∙◌, arith}
-use Rattle.fixed_error.specs.Greatest.{Entry, HasGreatest}
-use Rattle.fixed_report.proofs.ReportLemmas.{kept_in, kept_out, kept_short, ok_given}
+use Rattle.std.proofs.Common.{◌≡◌, ◌≤◌, ◌<◌, [], ◌∷◌, ◌++◌, None, Some, length, refl, ◌∙◌, arith}
+use Rattle.std.proofs.lemmas.Grind.{common_steps}
+use Rattle.fixed_error.specs.Greatest.{Entry}
+use Rattle.fixed_report.proofs.ReportLemmas.{kept_in, kept_out, kept_short, lost_long, lost_out, lost_short, none_of, not_long}
 use Rattle.fixed_report.specs.Report.{Kept, longest_kept}
+use Rattle.fixed_report.specs.declared.report.Lost.TheVariants.{NoMemory}
 use Rattle.fixed_report.proofs.report.ErrorReport.add.Goals as goal
 
 pub returns-then-not-is_in-clause-one_more : goal.returns-then-not-is_in-clause-one_more
 returns-then-not-is_in-clause-one_more g c = λ entries known.
-    let inside : Kept = record { radix = c.self.inside.radix; format = c.self.inside.format; mode = c.self.inside.mode; greatest = c.self.inside.greatest; is_lost = c.self.inside.is_lost } in
+    let inside : Kept = record { radix = c.self.inside.radix; format = c.self.inside.format; mode = c.self.inside.mode; greatest = c.self.inside.greatest; lost = c.self.inside.lost } in
     kept_out inside c.args.self.now entries (record { place = c.args.place; numeral = c.args.numeral.now }) c.self.view_is (c.if-not-is_in.ensures.out refl) known
 
-pub invariant_of-self-then-is_ok : goal.invariant_of-self-then-is_ok
-invariant_of-self-then-is_ok g c =
+pub returns-then-not-is_in-clause-lost : goal.returns-then-not-is_in-clause-lost
+returns-then-not-is_in-clause-lost g c =
+    let inside : Kept = record { radix = c.self.inside.radix; format = c.self.inside.format; mode = c.self.inside.mode; greatest = c.self.inside.greatest; lost = c.self.inside.lost } in
+    lost_out inside c.args.self.now c.args.numeral.now c.self.view_is (c.if-not-is_in.ensures.out refl)
+
+pub returns-then-numeral-gt-LONGEST-clause-lost : goal.returns-then-numeral-gt-LONGEST-clause-lost
+returns-then-numeral-gt-LONGEST-clause-lost g c =
+    let inside : Kept = record { radix = c.self.inside.radix; format = c.self.inside.format; mode = c.self.inside.mode; greatest = c.self.inside.greatest; lost = c.self.inside.lost } in
+    let none : c.self.inside.lost ≡ None = none_of c.self.inside.lost (grind (arith, common_steps, c.is_some.ensures, c.if-is_some.false)) in
+    let more : longest_kept < length c.args.numeral.now = omega (arith, c.if-numeral-gt-LONGEST.true) in
+    lost_long inside c.args.self.now c.args.numeral.now c.self.view_is none (c.if-not-is_in.ensures.in_range refl) more
+
+pub invariant_of-self-in-Ok : goal.invariant_of-self-in-Ok
+invariant_of-self-in-Ok g c =
     let e : Entry = record { place = c.args.place; numeral = c.args.numeral.now } in
-    let step : (found : List Entry) → HasGreatest found c.self.inside.greatest → HasGreatest (found ++ e ∷ []) c.add.new.self
-    = ok_given c.add.result ((found : List Entry) → HasGreatest found c.self.inside.greatest → HasGreatest (found ++ e ∷ []) c.add.new.self) (sym c.is_ok.ensures.value ∙ c.if-is_ok.true) c.add.ensures.one_more in
-    let kept : (c.add.new.self.numeral.items ≡ c.self.inside.greatest.numeral.items) ⊎ (c.add.new.self.numeral.items ≡ c.args.numeral.now)
-    = ok_given c.add.result ((c.add.new.self.numeral.items ≡ c.self.inside.greatest.numeral.items) ⊎ (c.add.new.self.numeral.items ≡ c.args.numeral.now)) (sym c.is_ok.ensures.value ∙ c.if-is_ok.true) c.add.ensures.kept in
     let few : length c.args.numeral.now ≤ longest_kept = omega (arith, c.if-numeral-gt-LONGEST.false) in
     record {
       radix = c.add.ensures.radix ∙ c.self.invariant.radix;
       frac = c.add.ensures.frac ∙ c.self.invariant.frac;
       mode = c.add.ensures.mode ∙ c.self.invariant.mode;
-      short = kept_short c.self.inside.greatest.numeral.items c.add.new.self.numeral.items c.args.numeral.now longest_kept c.self.invariant.short few kept;
-      known = λ _. let old = c.self.invariant.known c.if-self.false in (old.0 ++ e ∷ [], step old.0 old.1);
+      short = kept_short c.self.inside.greatest.numeral.items c.add.new.self.numeral.items c.args.numeral.now longest_kept c.self.invariant.short few c.in-Ok.ensures.kept;
+      known = λ none. let old = c.self.invariant.known none in (old.0 ++ e ∷ [], c.in-Ok.ensures.one_more old.0 old.1);
     }
 
-pub returns-then-is_ok-clause-one_more : goal.returns-then-is_ok-clause-one_more
-returns-then-is_ok-clause-one_more g c = λ entries known.
-    let inside : Kept = record { radix = c.self.inside.radix; format = c.self.inside.format; mode = c.self.inside.mode; greatest = c.self.inside.greatest; is_lost = c.self.inside.is_lost } in
+pub returns-in-Ok-clause-one_more : goal.returns-in-Ok-clause-one_more
+returns-in-Ok-clause-one_more g c = λ entries known.
+    let inside : Kept = record { radix = c.self.inside.radix; format = c.self.inside.format; mode = c.self.inside.mode; greatest = c.self.inside.greatest; lost = c.self.inside.lost } in
+    let none : c.self.inside.lost ≡ None = none_of c.self.inside.lost (grind (arith, common_steps, c.is_some.ensures, c.if-is_some.false)) in
     let e : Entry = record { place = c.args.place; numeral = c.args.numeral.now } in
-    let step : (found : List Entry) → HasGreatest found c.self.inside.greatest → HasGreatest (found ++ e ∷ []) c.add.new.self
-    = ok_given c.add.result ((found : List Entry) → HasGreatest found c.self.inside.greatest → HasGreatest (found ++ e ∷ []) c.add.new.self) (sym c.is_ok.ensures.value ∙ c.if-is_ok.true) c.add.ensures.one_more in
-    kept_in inside c.args.self.now entries e false c.add.new.self c.self.view_is c.if-self.false (c.if-not-is_in.ensures.in_range refl) step known
+    kept_in inside c.args.self.now entries e c.self.inside.lost c.add.new.self c.self.view_is none (c.if-not-is_in.ensures.in_range refl) c.in-Ok.ensures.one_more known
+
+pub returns-in-Err-clause-lost : goal.returns-in-Err-clause-lost
+returns-in-Err-clause-lost g c =
+    let inside : Kept = record { radix = c.self.inside.radix; format = c.self.inside.format; mode = c.self.inside.mode; greatest = c.self.inside.greatest; lost = c.self.inside.lost } in
+    let none : c.self.inside.lost ≡ None = none_of c.self.inside.lost (grind (arith, common_steps, c.is_some.ensures, c.if-is_some.false)) in
+    let few : length c.args.numeral.now ≤ longest_kept = omega (arith, c.if-numeral-gt-LONGEST.false) in
+    lost_short inside c.args.self.now c.args.numeral.now (Some NoMemory) c.self.view_is none (c.if-not-is_in.ensures.in_range refl) few not_long
