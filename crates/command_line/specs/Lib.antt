@@ -1,3 +1,4 @@
--- What carries bytes, and the words that a command line gives a command.
+-- Devices that carry bytes, and the operands and options that a command line gives a command.
 pub mod Device
 pub mod Words
+pub mod Said

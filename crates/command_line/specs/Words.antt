@@ -1,4 +1,4 @@
--- What `clap` found, as a command asks for it.
+-- What `clap` found, as a command looks it up.
 use Rattle.std.specs.Prelude.{◌≡◌, ◌++◌, [], ℕ, Bool, List, None, Option, Some, codes, false, flat_map}
 use Rattle.std.specs.Prelude.{if◌then◌else◌, length, map, nat_lt, option_map, slice_get, unwrap_or}
 use Rattle.std.specs.Str.{bytes_eq}
@@ -11,32 +11,33 @@ use Rattle.command_line.specs.declared.page.Operand.{Operand}
 abbrev pub value_of : Given → List ℕ → Option (List ℕ)
 value_of given name = first_value (found_of given.matches.now) name
 
--- there is a text, and it is `true`
+-- whether there is a text and it is `true`
 abbrev pub is_true_text : Option (List ℕ) → Bool
 is_true_text None = false
 is_true_text (Some text) = bytes_eq text (codes "true")
 
--- the option of this name, which has no value, is there
+-- whether the option of this name, which takes no value, is given
 abbrev pub has_flag : Given → List ℕ → Bool
 has_flag given name = is_true_text (one_text (found_of given.matches.now) name)
 
--- the word at a place
+-- the operand at this index
 abbrev pub word_at : Given → ℕ → Option (List ℕ)
 word_at given place = option_map (λ s. s.now) (slice_get given.words.items place)
 
--- the word at a place where it may be a keyword: it comes before `--`
+-- the operand at this index if it may be a keyword: it comes before `--`
 abbrev pub keyword_at : Given → ℕ → Option (List ℕ)
 keyword_at given place = if nat_lt place given.open then word_at given place else None
 
--- the words that `clap` found at a place of this name
+-- the operands that `clap` found under this name
 abbrev pub found_at : ArgMatches → List ℕ → List (List ℕ)
 found_at matches name = unwrap_or (option_map raw_values (matched_of (found_of matches) name)) []
 
--- the words at some places, one after another
+-- the operands found under some names, one after another
 abbrev pub found_words : ArgMatches → List Operand → List (List ℕ)
 found_words matches places = flat_map (λ place. found_at matches place.name.now) places
 
--- a command is given what `clap` found, the words at its places, which may be keywords, and then those after `--`
+-- a command is given what `clap` found: the options, the operands under its names, which may be keywords, and then
+-- those after `--`
 pub record IsGiven (matches : ArgMatches) (places : List Operand) (after : List (List ℕ)) (given : Given) : Type 0 where
   pub options : given.matches.now ≡ matches
   pub words : map (λ s. s.now) given.words.items ≡ found_words matches places ++ after

@@ -1,4 +1,4 @@
-//! What the words of a command line give a command, and why they may be refused.
+//! The arguments of a command, and why they may be refused.
 
 ghost use Rattle.std.specs.Prelude.{◌≡◌, ◌++◌, IfErr, IfOk, None, OnOk, Some, drop, map, option_map, string_bytes};
 ghost use Rattle.command_line.specs.Words.{IsGiven, found_at, found_words, has_flag, keyword_at, value_of, word_at};
@@ -10,13 +10,13 @@ use std::alloc::{AllocError, Global};
 /// Why a command line is refused.
 #[derive(Clone, Copy, Debug)]
 pub enum Refusal<'a> {
-    /// There is no memory.
+    /// There was no memory.
     NoMemory,
-    /// A word that is needed is not there.
+    /// A required operand is missing.
     Missing(&'static str),
-    /// This word is wrong, for this reason.
+    /// This argument is invalid, for this reason.
     Word(&'a str, &'static str),
-    /// The option of this name is out of place, for this reason.
+    /// The option with this name is misplaced, for this reason.
     Option(&'static str, &'static str),
 }
 
@@ -26,21 +26,21 @@ impl<'a> From<AllocError> for Refusal<'a> {
     }
 }
 
-/// What a command line asks for, or why it is refused.
+/// The request of a command line, or why it is refused.
 pub type Asked<'a, T> = Result<T, Refusal<'a>>;
 
-/// What the words of a command line give a command.
+/// The arguments of a command.
 #[derive(Drop)]
 pub struct Given<'w, 'a> {
     matches: &'w ArgMatches<'a>,
-    /// Its words that are neither options nor their values.
+    /// The operands: arguments that are neither options nor their values.
     pub words: Vec<&'a str>,
     // How many of them come before `--`: only these may be keywords.
     open: usize,
 }
 
 impl<'w, 'a> Given<'w, 'a> {
-    /// What `clap` found, and the words after `--`.
+    /// Collects the operands that `clap` found, and the arguments after `--`.
     pub fn new(
         alloc: Global,
         matches: &'w ArgMatches<'a>,
@@ -64,21 +64,21 @@ impl<'w, 'a> Given<'w, 'a> {
         })
     }
 
-    /// The value of an option: what `clap` found under its name.
+    /// Returns the value of an option, which `clap` found under its name.
     pub fn value(&self, row: &Row) -> Option<&'a str>
         ensures { option_map (λ s. s.now) result ≡ value_of self.now row.now.name.now }
     {
         self.matches.get_str(row.name)
     }
 
-    /// Whether an option without a value is there.
+    /// Whether an option without a value is given.
     pub fn has(&self, row: &Row) -> bool
         ensures { result ≡ has_flag self.now row.now.name.now }
     {
         self.matches.get_one(row.name).unwrap_or(false)
     }
 
-    /// The word at a place, which must be there.
+    /// Returns the operand at an index, which must be given.
     pub fn needed(&self, place: usize, name: &'static str) -> Asked<'a, &'a str>
         ensures value { IfOk result (λ w. word_at self.now place ≡ Some w.now) }
         ensures refused { IfErr result (λ _. word_at self.now place ≡ None) }
@@ -89,7 +89,7 @@ impl<'w, 'a> Given<'w, 'a> {
         }
     }
 
-    /// The word at a place where it may be a keyword.
+    /// Returns the operand at an index if it may be a keyword.
     pub fn keyword(&self, place: usize) -> Option<&'a str>
         ensures { option_map (λ s. s.now) result ≡ keyword_at self.now place }
     {
@@ -100,7 +100,7 @@ impl<'w, 'a> Given<'w, 'a> {
         }
     }
 
-    /// The words from a place on.
+    /// Returns the operands from an index on.
     pub fn from(&self, place: usize) -> &[&'a str]
         ensures { result.now ≡ drop place self.now.words.items }
     {
@@ -109,7 +109,7 @@ impl<'w, 'a> Given<'w, 'a> {
     }
 }
 
-/// Appends the words that `clap` found at a place of this name.
+/// Appends the operands that `clap` found under a name.
 fn push_found<'a>(
     words: &mut Vec<&'a str>,
     matches: &ArgMatches<'a>,
@@ -124,7 +124,7 @@ fn push_found<'a>(
     }
 }
 
-/// The words before `--`, and those after it.
+/// Splits arguments at the first `--`, which is dropped.
 pub fn split_words(words: &[String]) -> (&[String], &[String]) {
     match words.iter().position(|word| word.as_str() == "--") {
         Some(place) => {
@@ -147,7 +147,7 @@ fn is_letter(byte: u8, options: &[Row]) -> bool {
             .any(|row| row.letter == Some(char::from(byte)))
 }
 
-/// Whether a word is an option of a command of numerals: it begins with two hyphens, or with one and an option's
+/// Whether an argument of a command with numerals is an option: it begins with two hyphens, or with one and an option's
 /// letter.
 fn is_option(word: &str, options: &[Row]) -> bool {
     match word.as_bytes() {
@@ -157,7 +157,7 @@ fn is_option(word: &str, options: &[Row]) -> bool {
     }
 }
 
-/// Whether a word is the name of an option after `--`, or its letter after `-`.
+/// Whether an argument is `--` and the option's name, or `-` and its letter.
 fn is_row(word: &str, row: &Row) -> bool {
     match word.strip_prefix("--") {
         Some(name) => name == row.name,
@@ -168,7 +168,7 @@ fn is_row(word: &str, row: &Row) -> bool {
     }
 }
 
-/// Whether a text is one character.
+/// Whether a text is this one character.
 fn is_one(text: &str, letter: char) -> bool {
     match text.strip_prefix(letter) {
         Some(rest) => rest.is_empty(),
@@ -176,14 +176,14 @@ fn is_one(text: &str, letter: char) -> bool {
     }
 }
 
-/// Whether a word is an option whose value is the next word.
+/// Whether an argument is an option whose value is the next argument.
 fn takes_next(word: &str, options: &[Row]) -> bool {
     options
         .iter()
         .any(|row| !row.value.is_empty() && is_row(word, row))
 }
 
-/// An option and its value as one word.
+/// Returns an option and its value as one argument.
 fn with_value(alloc: Global, option: &str, value: &str) -> Result<String, AllocError> {
     let mut text = String::from_str(alloc, option)?;
     text.push('=')?;
@@ -191,7 +191,7 @@ fn with_value(alloc: Global, option: &str, value: &str) -> Result<String, AllocE
     Ok(text)
 }
 
-/// Appends the options among words, each with its value, to one list, and the other words to another.
+/// Appends the options among the arguments, each with its value, to `read`, and the other arguments to `others`.
 fn sort_words(
     alloc: Global,
     words: &[String],
@@ -224,8 +224,8 @@ fn sort_words(
     Ok(())
 }
 
-/// The words of a command of numerals for `clap`: the command and its options, then `--`, and then all other words in
-/// their order, so that no numeral is taken for an option.
+/// Returns the arguments of a command with numerals for `clap`: the command and its options, then `--`, then all other
+/// arguments in their order, so that no numeral is taken for an option.
 pub fn sorted_words(
     alloc: Global,
     command: &str,
@@ -243,7 +243,7 @@ pub fn sorted_words(
     Ok(read)
 }
 
-/// The option that a word is, if its value may be left out.
+/// Returns the option that an argument names, if its value may be left out.
 fn open_row<'r>(word: &str, options: &'r [Row]) -> Option<&'r Row> {
     let name = word.strip_prefix("--")?;
     options
@@ -251,7 +251,7 @@ fn open_row<'r>(word: &str, options: &'r [Row]) -> Option<&'r Row> {
         .find(|row| row.may_lack_value() && row.name == name)
 }
 
-/// An option and its value in one word: this one if it is one of its values, and else the first of those.
+/// Returns an option and its value as one argument: `word` if it is a choice, else the first; and whether it is `word`.
 fn filled(alloc: Global, row: &Row, word: &str) -> Result<(String, bool), AllocError> {
     let mut text = String::from_str(alloc, "--")?;
     text.push_str(row.name)?;
@@ -265,7 +265,7 @@ fn filled(alloc: Global, row: &Row, word: &str) -> Result<(String, bool), AllocE
     Ok((text, is_value))
 }
 
-/// The words of a command for `clap`, in which each option has its value.
+/// Returns the arguments of a command for `clap`, with left-out option values filled in.
 pub fn filled_words(
     alloc: Global,
     words: Vec<String>,
@@ -295,7 +295,7 @@ pub fn filled_words(
     Ok(all)
 }
 
-/// The words of a command for `clap`: `help` and a command ask for the help of that command.
+/// Returns the arguments of a command for `clap`: `help COMMAND` becomes `COMMAND --help`.
 pub fn plain_words(alloc: Global, words: &[String]) -> Result<Vec<String>, AllocError> {
     let (is_help, rest) = match words {
         [first, rest @ ..] if first.as_str() == "help" => (true, rest),

@@ -1,4 +1,4 @@
-//! A command as its help shows it: its words and options are rows of a table, and one function gives them to `clap`.
+//! A command as its help shows it: tables of its operands and options, which one function passes to `clap`.
 
 use clap::{Arg, ArgAction, Command};
 use std::alloc::{AllocError, Global};
@@ -8,13 +8,13 @@ use std::alloc::{AllocError, Global};
 pub struct Row {
     /// Its name, after `--`.
     pub name: &'static str,
-    /// Its letter, after `-`, where it has one.
+    /// Its letter, after `-`, if any.
     pub letter: Option<char>,
-    /// What help calls its value: the empty text where it takes none, and in brackets if it may be left out.
+    /// The name of its value in help: empty if it takes none, and in brackets if the value may be left out.
     pub value: &'static str,
-    /// The values that it takes, where these are a few; the first is meant if it may be left out.
+    /// The values that it takes, if these are a few; the first is the default if the value may be left out.
     pub choices: &'static [&'static str],
-    /// What help says of it.
+    /// Its description in help.
     pub help: &'static str,
 }
 
@@ -25,12 +25,12 @@ impl Row {
     }
 }
 
-/// The words at one place.
+/// The operands at one position.
 #[derive(Clone, Copy)]
 pub struct Operand {
-    /// What help calls them.
+    /// Their name in help.
     pub name: &'static str,
-    /// What help says of them.
+    /// Their description in help.
     pub help: &'static str,
 }
 
@@ -39,19 +39,19 @@ pub struct Operand {
 pub struct Page {
     /// Its name.
     pub name: &'static str,
-    /// Another name that help does not show; the empty text where it has none.
+    /// Another name, which help does not show; empty if it has none.
     pub hidden_name: &'static str,
     /// What it does.
     pub about: &'static str,
-    /// How it is called.
+    /// Its usage.
     pub usage: &'static str,
-    /// Its words in order. The last takes all that are left.
+    /// Its operands in order. The last one takes all remaining arguments.
     pub operands: &'static [Operand],
-    /// Whether a word that begins with one hyphen is a numeral, unless an option's letter follows.
+    /// Whether an argument that begins with one hyphen is a numeral, unless an option's letter follows.
     pub has_numerals: bool,
     /// Its options.
     pub options: &'static [Row],
-    /// What help ends with: what a format is, and an example.
+    /// The end of its help: what a format is, and an example.
     pub end: &'static str,
 }
 
@@ -61,17 +61,17 @@ pub const FILES: Operand = Operand {
     help: "Files; `-` or none is standard input",
 };
 
-/// An argument of this name, with what help says of it.
+/// Makes an argument with this name and help.
 fn argument<'a>(alloc: Global, name: &'a str, help: &'a str) -> Arg<'a> {
     Arg::new(alloc, name).help(help)
 }
 
-/// An argument that goes by its name after `--`.
+/// Gives an argument its name after `--`.
 fn named<'a>(argument: Arg<'a>, name: &'a str) -> Arg<'a> {
     argument.long(name)
 }
 
-/// An argument with its letter, where it has one.
+/// Gives an argument its letter, if any.
 fn lettered(argument: Arg<'_>, letter: Option<char>) -> Arg<'_> {
     match letter {
         Some(letter) => argument.short(letter),
@@ -79,12 +79,12 @@ fn lettered(argument: Arg<'_>, letter: Option<char>) -> Arg<'_> {
     }
 }
 
-/// An argument that takes one value, which help calls so.
+/// Lets an argument take one value, with this name in help.
 fn valued<'a>(argument: Arg<'a>, value: &'a str) -> Arg<'a> {
     argument.action(ArgAction::Set).value_name(value)
 }
 
-/// An argument that takes one of these values, or any where there are none.
+/// Lets an argument take one of these values, or any if there are none.
 fn chosen<'a>(argument: Arg<'a>, choices: &'a [&'a str]) -> Arg<'a> {
     if choices.is_empty() {
         argument
@@ -93,7 +93,7 @@ fn chosen<'a>(argument: Arg<'a>, choices: &'a [&'a str]) -> Arg<'a> {
     }
 }
 
-/// An option.
+/// Makes an option.
 fn optional<'a>(alloc: Global, row: &Row) -> Arg<'a> {
     let known = argument(alloc, row.name, row.help);
     let known = named(known, row.name);
@@ -107,13 +107,13 @@ fn optional<'a>(alloc: Global, row: &Row) -> Arg<'a> {
     }
 }
 
-/// The name of a value without the brackets around it.
+/// Returns the name of a value without the brackets around it.
 fn bare_value(value: &'static str) -> &'static str {
     let open = value.strip_prefix('[').unwrap_or(value);
     open.strip_suffix(']').unwrap_or(open)
 }
 
-/// The words at a place; at the last one, all that are left.
+/// Makes the operand at a position; the last one takes all remaining arguments.
 fn positional<'a>(alloc: Global, operand: &Operand, is_last: bool) -> Arg<'a> {
     let words = argument(alloc, operand.name, operand.help);
     if is_last {
@@ -123,7 +123,7 @@ fn positional<'a>(alloc: Global, operand: &Operand, is_last: bool) -> Arg<'a> {
     }
 }
 
-/// The options of a command, in a list for `clap`.
+/// Lists the operands and options of a command for `clap`.
 fn arguments<'a>(alloc: Global, page: &Page) -> Result<Vec<Arg<'a>>, AllocError> {
     let mut all = Vec::new(alloc);
     let mut left = page.operands.len();
@@ -137,13 +137,13 @@ fn arguments<'a>(alloc: Global, page: &Page) -> Result<Vec<Arg<'a>>, AllocError>
     Ok(all)
 }
 
-/// A command without its arguments.
+/// Makes a command without its arguments.
 fn titled<'a>(alloc: Global, page: &Page) -> Command<'a> {
     let command = Command::new(alloc, page.name).about(page.about);
     command.override_usage(page.usage).after_help(page.end)
 }
 
-/// A command with its hidden name, where it has one.
+/// Gives a command its hidden name, if any.
 fn renamed<'a>(command: Command<'a>, name: &'a str) -> Result<Command<'a>, AllocError> {
     if name.is_empty() {
         Ok(command)
@@ -152,13 +152,13 @@ fn renamed<'a>(command: Command<'a>, name: &'a str) -> Result<Command<'a>, Alloc
     }
 }
 
-/// A command.
+/// Makes a command.
 fn command_of<'a>(alloc: Global, page: &Page) -> Result<Command<'a>, AllocError> {
     let command = renamed(titled(alloc, page), page.hidden_name)?;
     command.args(arguments(alloc, page)?)
 }
 
-/// All commands, in a list for `clap`.
+/// Lists all commands for `clap`.
 pub fn commands_of<'a>(alloc: Global, pages: &[Page]) -> Result<Vec<Command<'a>>, AllocError> {
     let mut all = Vec::new(alloc);
     for page in pages {

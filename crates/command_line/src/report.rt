@@ -1,8 +1,10 @@
-//! What goes to standard output as it is, and what goes to standard error: one line each, with no control character
-//! in it.
+//! Reports on standard error: one line each, without control characters.
 //!
 //! So the text of an input can neither move a terminal's cursor nor break a message. The byte that makes a numeral
-//! invalid is one byte, and so it is shown by its digits even if it is part of a longer character.
+//! invalid is one byte, so it is shown by its digits even if it is part of a longer character.
+
+ghost use Rattle.std.specs.Prelude.{◌≡◌, ◌<◌, ℕ, decimal, drop, max, option_map, take};
+ghost use Rattle.command_line.specs.Said.{IsBegun, IsFirstPart, IsWidth, Shows, first_line, hex_digit, pushed, shown};
 
 use crate::device::Failure;
 use fixed_io::StdSink;
@@ -13,9 +15,11 @@ use std::alloc::Global;
 use std::io::{Error, ErrorKind};
 use text_buffer::TextBuffer;
 
-/// What a report has of a file's name: its first characters that are at most 256 bytes.
-fn first_part(name: &str) -> &str {
-    for end in [256, 255, 254, 253] {
+/// Returns the part of a file's name in reports: its first characters that fit in 256 bytes.
+fn first_part(name: &str) -> &str
+    ensures { IsFirstPart name.now result.now }
+{
+    'ends: for end in [256, 255, 254, 253] {
         if let Some(first) = name.get(..end) {
             return first;
         }
@@ -23,8 +27,10 @@ fn first_part(name: &str) -> &str {
     name
 }
 
-/// A number below 16 as a hexadecimal digit.
-pub fn hex_digit(number: u8) -> u8 {
+/// Returns a number below 16 as a hexadecimal digit.
+pub fn hex_digit(number: u8) -> u8
+    ensures { number < 16 → result ≡ hex_digit number }
+{
     if number < 10 {
         b'0' + number
     } else {
@@ -32,8 +38,10 @@ pub fn hex_digit(number: u8) -> u8 {
     }
 }
 
-/// How many bytes the character of UTF-8 has that bytes begin with. 0 where they begin with none.
-fn character_width(bytes: &[u8]) -> usize {
+/// Returns the length of the UTF-8 character that `bytes` begins with, or 0 if it does not begin with one.
+fn character_width(bytes: &[u8]) -> usize
+    ensures { IsWidth bytes.now result }
+{
     let width = match bytes {
         [0..=0x7f, ..] => 1,
         [0xc0..=0xdf, ..] => 2,
@@ -54,8 +62,10 @@ pub struct Report {
 }
 
 impl Report {
-    /// A report of an input: of a file, or of standard input.
-    pub fn of(file: Option<&str>) -> Report {
+    /// Begins a report of an input: a file, or standard input.
+    pub fn of(file: Option<&str>) -> Report
+        ensures { IsBegun (option_map (λ s. s.now) file.entry) result.line }
+    {
         let mut line = TextBuffer::new();
         line.push_bytes(b"fixed");
         let mut report = Report { line };
@@ -67,23 +77,27 @@ impl Report {
         report
     }
 
-    /// Appends bytes, where there is room for them and a newline.
-    fn push(&mut self, bytes: &[u8]) {
+    /// Appends bytes if they and a newline fit.
+    #[tactic(auto, unfolding(crate::specs::Said::pushed))]
+    fn push(&mut self, bytes: &[u8])
+        ensures { self.new.line ≡ pushed self.old.line bytes.now }
+    {
         if self.line.room() > bytes.len() {
             self.line.push_bytes(bytes);
         }
     }
 
-    /// Appends the first character of some bytes as it is shown, and returns the bytes after it. A control character is
-    /// `?`, and a byte that begins no character of UTF-8 is its two hexadecimal digits after `\x`.
-    fn character<'t>(&mut self, bytes: &'t [u8]) -> &'t [u8] {
+    /// Appends the first character of `bytes` in readable form, and returns the bytes after it. A control character is
+    /// shown as `?`, and a byte that does not begin a UTF-8 character as `\x` and two hexadecimal digits.
+    fn character<'t>(&mut self, bytes: &'t [u8]) -> &'t [u8]
+        ensures { (width : ℕ) × IsWidth bytes.now width × (result.now ≡ drop (max width 1) bytes.now)
+            × (self.new.line ≡ pushed self.old.line (shown width (take (max width 1) bytes.now))) }
+    {
         let width = character_width(bytes);
         let (first, rest) = bytes.split_at(width.max(1).min(bytes.len()));
         match first {
-            _ if width == 0 => {
-                for byte in first {
-                    self.push(&[b'\\', b'x', hex_digit(byte / 16), hex_digit(byte % 16)]);
-                }
+            [byte] if width == 0 => {
+                self.push(&[b'\\', b'x', hex_digit(byte / 16), hex_digit(byte % 16)]);
             }
             [byte] if byte.is_ascii_control() => self.push(b"?"),
             [0xc2, 0x80..=0x9f] => self.push(b"?"),
@@ -92,10 +106,12 @@ impl Report {
         rest
     }
 
-    /// Appends this many characters of some bytes, a newline as any other control character.
-    pub fn name(&mut self, bytes: &[u8], most: usize) {
+    /// Appends the first `most` characters of `bytes`, with a newline like any other control character.
+    pub fn name(&mut self, bytes: &[u8], most: usize)
+        ensures { Shows most bytes.now self.old.line self.new.line }
+    {
         let mut rest = bytes;
-        for _ in 0..most {
+        'characters: for count in 0..most {
             if rest.is_empty() {
                 return;
             }
@@ -103,8 +119,10 @@ impl Report {
         }
     }
 
-    /// Appends this many characters of some bytes, up to a newline.
-    pub fn bytes(&mut self, bytes: &[u8], most: usize) {
+    /// Appends the first `most` characters of `bytes`, up to a newline.
+    pub fn bytes(&mut self, bytes: &[u8], most: usize)
+        ensures { Shows most (first_line bytes.now) self.old.line self.new.line }
+    {
         match memchr(b'\n', bytes) {
             Some(end) => self.name(&bytes[..end], most),
             None => self.name(bytes, most),
@@ -112,11 +130,13 @@ impl Report {
     }
 
     /// Appends a text.
-    pub fn text(&mut self, text: &str) {
+    pub fn text(&mut self, text: &str)
+        ensures { Shows 1024 (first_line text.now) self.old.line self.new.line }
+    {
         self.bytes(text.as_bytes(), 1024);
     }
 
-    /// Appends where there is help for a command; for all of them where none is named.
+    /// Appends how to get help for a command, or for all of them if its name is empty.
     pub fn end_with_help(&mut self, command: &str) {
         self.text("; try 'fixed ");
         self.text(command);
@@ -127,7 +147,9 @@ impl Report {
     }
 
     /// Appends a number.
-    pub fn number(&mut self, number: u64) {
+    pub fn number(&mut self, number: u64)
+        ensures { Shows 1024 (first_line (decimal number)) self.old.line self.new.line }
+    {
         let mut digits = Buffer::new();
         self.text(digits.format(number));
     }
@@ -142,7 +164,7 @@ impl Report {
     }
 }
 
-/// Says on standard error why a command line is refused, and where there is help.
+/// Reports on standard error why a command line is refused, and how to get help.
 pub fn refuse(rt: &HostRuntime, command: &str, words: &[&str]) -> Status {
     let mut report = Report::of(None);
     for word in words {
@@ -153,7 +175,7 @@ pub fn refuse(rt: &HostRuntime, command: &str, words: &[&str]) -> Status {
     Status::Usage
 }
 
-/// Says on standard error that there is no memory for a command line.
+/// Reports on standard error that there is no memory for a command line.
 pub fn report_no_memory(rt: &HostRuntime) -> Status {
     let mut report = Report::of(None);
     report.text("there is no memory, lines answered: 0");
@@ -161,7 +183,7 @@ pub fn report_no_memory(rt: &HostRuntime) -> Status {
     Status::NoMemory
 }
 
-/// Why a run ended with this status, and what it did before; nothing of one that ended well.
+/// Returns why a run failed with this status; empty for `Done`, `Faults` and `Usage`.
 fn cause_of(status: Status) -> &'static str {
     match status {
         Status::Done | Status::Faults | Status::Usage => "",
@@ -172,7 +194,7 @@ fn cause_of(status: Status) -> &'static str {
     }
 }
 
-/// The words of a device's error without the system's number for it at their end.
+/// Returns the message of a device's error without the system's number at its end.
 fn without_number(words: &str) -> &str {
     match words.split_once(" (os error ") {
         Some((bare, _number)) => bare,
@@ -180,14 +202,14 @@ fn without_number(words: &str) -> &str {
     }
 }
 
-/// Appends the device's own words.
+/// Appends the message of a device's error.
 pub fn push_words(report: &mut Report, alloc: Global, error: &Error) {
     if let Ok(words) = error.to_string(alloc) {
         report.text(without_number(&words));
     }
 }
 
-/// Whether a device failed since nobody reads on: that is not reported.
+/// Whether a device failed because its reader is gone, which is not reported.
 pub fn is_broken_pipe(error: &Option<Error>) -> bool {
     match error {
         Some(error) => error.kind() == ErrorKind::BrokenPipe,
@@ -195,7 +217,7 @@ pub fn is_broken_pipe(error: &Option<Error>) -> bool {
     }
 }
 
-/// Says on standard error why a run over an input, or over words, did not end well, and how many lines were written.
+/// Reports on standard error why a run over an input or over operands failed, and how many lines were written.
 pub fn report_end(
     rt: &HostRuntime,
     file: Option<&str>,

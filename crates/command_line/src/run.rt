@@ -1,4 +1,4 @@
-//! What the words of a command line ask for, read by `clap` from the tables of the commands, is done.
+//! Runs the command that a command line requests. `clap` reads the command line from the tables of the commands.
 
 use crate::device::{Failure, Writer};
 use crate::given::{Asked, Given, Refusal, filled_words, plain_words, sorted_words, split_words};
@@ -12,7 +12,7 @@ use line_engine::{Status, write_text};
 use std::alloc::{AllocError, Global};
 use std::sync::ledger::Ledger;
 
-/// A program of several commands.
+/// A program with several commands.
 #[derive(Clone, Copy)]
 pub struct Program<'p> {
     /// Its name.
@@ -21,17 +21,17 @@ pub struct Program<'p> {
     pub version: &'static str,
     /// What it does.
     pub about: &'static str,
-    /// How it is called.
+    /// Its usage.
     pub usage: &'static str,
-    /// What its help ends with: an example.
+    /// The end of its help: an example.
     pub end: &'static str,
     /// Its commands, in the order of the help.
     pub pages: &'p [Page],
 }
 
-/// What the commands of a program do.
+/// Runs the commands of a program.
 pub trait Commands<L: Ledger> {
-    /// Does what a command is asked for.
+    /// Runs a command with its arguments.
     fn run<'a>(
         &self,
         rt: &HostRuntime,
@@ -41,7 +41,7 @@ pub trait Commands<L: Ledger> {
     ) -> Asked<'a, Status>;
 }
 
-/// A program without its commands, for `clap`.
+/// Makes a program without its commands, for `clap`.
 fn bare<'a>(alloc: Global, program: &Program<'_>) -> Command<'a> {
     let command = Command::new(alloc, program.name).version(program.version);
     let command = command.propagate_version(true).no_binary_name(true);
@@ -51,18 +51,18 @@ fn bare<'a>(alloc: Global, program: &Program<'_>) -> Command<'a> {
         .after_help(program.end)
 }
 
-/// A program with all its commands, for `clap`.
+/// Makes a program with all its commands, for `clap`.
 fn whole<'a>(alloc: Global, program: &Program<'_>) -> Result<Command<'a>, AllocError> {
     bare(alloc, program).subcommands(commands_of(alloc, program.pages)?)
 }
 
-/// The page of the command that a word names.
+/// Returns the page of the command with this name or hidden name.
 fn page_of<'p>(program: &Program<'p>, word: &str) -> Option<&'p Page> {
     program.pages.iter().find(|page| page.name == word
         || !word.is_empty() && page.hidden_name == word)
 }
 
-/// The words as `clap` is to read them.
+/// Returns the arguments in the form for `clap`.
 fn prepared(
     alloc: Global,
     program: &Program<'_>,
@@ -79,7 +79,7 @@ fn prepared(
     plain_words(alloc, words)
 }
 
-/// Writes a text to standard output, and says on standard error where that failed.
+/// Writes a text to standard output. If that fails, reports it on standard error.
 pub fn write_out(rt: &HostRuntime, text: &[u8]) -> Status {
     let failure = Failure::new(None);
     let mut sink = StdSink::new(Writer {
@@ -91,7 +91,7 @@ pub fn write_out(rt: &HostRuntime, text: &[u8]) -> Status {
     status
 }
 
-/// Appends what an error of `clap` says in one line: what comes before its first empty line, and which word is similar.
+/// Appends the message of an error of `clap` in one line: what precedes its first empty line, and a similar name.
 fn push_error(report: &mut Report, text: &str) {
     let mut has_ended = false;
     let mut has_begun = false;
@@ -112,7 +112,7 @@ fn push_error(report: &mut Report, text: &str) {
     }
 }
 
-/// Says on standard error what an error of `clap` says.
+/// Reports the message of an error of `clap` on standard error.
 fn refuse_text(rt: &HostRuntime, command: &str, text: &str) -> Status {
     let mut report = Report::of(None);
     push_error(&mut report, text);
@@ -121,7 +121,7 @@ fn refuse_text(rt: &HostRuntime, command: &str, text: &str) -> Status {
     Status::Usage
 }
 
-/// Says on standard error why `clap` refuses the words, or writes the help that they ask for.
+/// Reports on standard error why `clap` refuses the arguments, or writes the help that they request.
 fn report_error(rt: &HostRuntime, command: &str, error: &Error) -> Status {
     if error.kind() == ErrorKind::OutOfMemory {
         return report_no_memory(rt);
@@ -133,7 +133,7 @@ fn report_error(rt: &HostRuntime, command: &str, error: &Error) -> Status {
     }
 }
 
-/// Does what the words that `clap` found ask for.
+/// Runs the command that `clap` found.
 fn run_matches<'a, C: Commands<L>, L: Ledger>(
     rt: &HostRuntime,
     program: &Program<'_>,
@@ -157,7 +157,7 @@ fn run_matches<'a, C: Commands<L>, L: Ledger>(
     }
 }
 
-/// Says on standard error why a command refuses its words.
+/// Reports on standard error why a command refuses its arguments.
 fn report_refusal(rt: &HostRuntime, name: &str, refusal: Refusal<'_>) -> Status {
     match refusal {
         Refusal::NoMemory => report_no_memory(rt),
@@ -167,7 +167,7 @@ fn report_refusal(rt: &HostRuntime, name: &str, refusal: Refusal<'_>) -> Status 
     }
 }
 
-/// Says on standard error why a command refuses a word, or an option by its name after hyphens.
+/// Reports on standard error why a command refuses an argument, or an option by its name after hyphens.
 fn refuse_word(rt: &HostRuntime, name: &str, hyphens: &str, word: &str, why: &str) -> Status {
     let mut report = Report::of(None);
     report.text("'");
@@ -180,7 +180,7 @@ fn refuse_word(rt: &HostRuntime, name: &str, hyphens: &str, word: &str, why: &st
     Status::Usage
 }
 
-/// What the words give a command.
+/// Collects the arguments of a command.
 fn given_of<'w, 'a>(
     alloc: Global,
     program: &Program<'_>,
@@ -195,7 +195,7 @@ fn given_of<'w, 'a>(
     Given::new(alloc, found, operands, after)
 }
 
-/// Does what the words ask for.
+/// Runs the program by its arguments.
 pub fn run_words<C: Commands<L>, L: Ledger>(
     rt: &HostRuntime,
     program: &Program<'_>,
@@ -220,7 +220,7 @@ pub fn run_words<C: Commands<L>, L: Ledger>(
     }
 }
 
-/// Writes the help to standard error, where there are no words.
+/// Writes the help to standard error, for a command line without arguments.
 fn show_help(rt: &HostRuntime, program: &Program<'_>) -> Status {
     let text = match whole(rt.alloc(), program) {
         Ok(command) => {
@@ -239,7 +239,7 @@ fn show_help(rt: &HostRuntime, program: &Program<'_>) -> Status {
     }
 }
 
-/// The name of the command that the first word names; the empty text where it names none.
+/// Returns the name of the command that the first argument names, or an empty text if it names none.
 fn first_page(program: &Program<'_>, words: &[String]) -> &'static str {
     match words {
         [first, ..] => match page_of(program, first) {
