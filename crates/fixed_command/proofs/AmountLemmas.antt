@@ -1,4 +1,4 @@
--- Lines that say amounts: before the first one.
+-- Lines of amounts: the state before the first line.
 use Rattle.std.proofs.Common.{◌≡◌, ◌∙◌, ◌||◌, Bool, true, false, [], ap, arith, refl, sym}
 use Rattle.fixed_amounts.specs.Reply.{fault_text}
 use Rattle.fixed_amounts.specs.declared.settings.AmountSettings.{AmountSettings}

@@ -1,5 +1,5 @@
--- What is answered to the line that asks for a conversion.
-use Rattle.std.proofs.Common.{◌≡◌, ℕ, zero, suc, ◌+◌, ◌-◌, ◌^◌, ◌<◌, ◌≤◌, ◌/◌, ◌%◌, Bool, true, false, cond, eqb, nat_lt, List, [], ◌∷◌, ◌++◌, length, map, ◌||◌, ℤ, pos, negsuc, refl, sym, ap, ◌∙◌, subst, arith, inl, inr, length-append, if◌then◌else◌, ◌==◌}
+-- The answers to lines that request conversions.
+use Rattle.std.proofs.Common.{◌≡◌, ℕ, zero, suc, ◌+◌, ◌^◌, ◌<◌, ◌≤◌, ◌/◌, ◌%◌, Bool, true, false, cond, eqb, nat_lt, List, [], ◌∷◌, ◌++◌, length, map, ◌||◌, ℤ, pos, negsuc, refl, sym, ap, ◌∙◌, subst, arith, inl, inr, length-append, if◌then◌else◌, ◌==◌}
 use Rattle.std.specs.Fmt.{decimal, digit_glyph, sign_text, signed_decimal}
 use Rattle.std.specs.Int.{is_negative}
 use Rattle.std.specs.Int.Digits.{digits_of}
@@ -8,13 +8,12 @@ use Rattle.std.proofs.lemmas.Fmt.{decimal_is_IsNumeral}
 use Rattle.std.proofs.lemmas.Int.{ints}
 use Rattle.std.proofs.lemmas.Str.Parse.{digit_from_value}
 use Rattle.fixed_bits.specs.Formats.{FormatParts, IsFormat, whole_length}
-use Rattle.fixed_bits.specs.Ranges.{IsInRange, IsWide}
+use Rattle.fixed_bits.specs.Ranges.{IsWide}
 use Rattle.fixed_bits.specs.declared.format.Policy.{Policy}
 use Rattle.fixed_bits.specs.declared.format.Policy.TheVariants.{Checked, Saturating, Wrapping, Symmetric}
 use Rattle.fixed_bits.specs.declared.mode.ReadMode.{ReadMode}
 use Rattle.fixed_bits.specs.declared.mode.ReadMode.TheVariants.{NearestEven, Floor, Ceil, TowardsZero}
 use Rattle.fixed_bits.specs.declared.mode.ReadMode.TheVariants.{AwayFromZero, NearestAway, NearestDown, NearestUp, NearestZero}
-use Rattle.fixed_bits.proofs.Public.{image_within}
 use Rattle.fixed_numeral.specs.Messages.{message_of}
 use Rattle.fixed_numeral.specs.declared.error.ParseErrorKind.{ParseErrorKind}
 use Rattle.fixed_numeral.specs.declared.radix.Radix.{Radix}
@@ -38,7 +37,7 @@ use Rattle.fixed_command.specs.Convert.{AreFormats, IsAnswerBy, IsMovedAnswer, I
 use Rattle.fixed_command.specs.Printed.{printed}
 use Rattle.fixed_command.specs.declared.convert.Settings.{Settings}
 
--- ---- what has no space
+-- ---- texts without spaces
 other_byte : (c : ℕ) (rest : List ℕ) → 33 ≤ c → count_of space (c ∷ rest) ≡ count_of space rest
 other_byte c rest high =
     let other : eqb c 32 ≡ false = grind (arith, high) in
@@ -140,7 +139,7 @@ format_unspaced f is =
     other_byte (sign_letter f.signed) (counts_text 70 f) (letter_high f.signed)
     ∙ both_unspaced (signed_decimal (whole_length f)) (70 ∷ decimal f.frac) (signed_unspaced (whole_length f) wide) fraction
 
--- ---- what the line asks for
+-- ---- the request of a line
 asks : (s : Settings) (numeral : List ℕ) → AreFormats s → length (asking_line s numeral) ≤ longest_line → AsksBy IsFormatName IsPolicyName (asking_line s numeral) (task_of s.radix s.source s.target s.policy s.mode numeral)
 asks s numeral formats short = record {
   short = short;
@@ -168,9 +167,6 @@ asks s numeral formats short = record {
 }
 
 -- ---- the replies
-pub respelled_range : (s : Settings) (numeral : List ℕ) (bits : ℤ) (o : Bool) → IsRespelled s.mode s.radix numeral s.policy s.source s.target bits o → IsInRange s.target.signed s.target.width bits
-respelled_range s numeral bits o is = (image_within s.policy s.target.signed s.target.width is.reached.moved bits is.reached.target_image).0
-
 pub respelled_reply : (s : Settings) (numeral text : List ℕ) (bits : ℤ) (o : Bool) → asks_a_line s.spelling s.target_mode ≡ true → AreFormats s → length (asking_line s numeral) ≤ longest_line → IsRespelled s.mode s.radix numeral s.policy s.source s.target bits o → IsShortestText bits s.target.frac text → IsWide bits
     → IsReply s numeral (record { text = printed s.print s.target (respelled_answer text bits o).text text bits; fault = false })
 respelled_reply s numeral text bits o line formats short is shortest wide = record {
@@ -202,7 +198,7 @@ refused_reply s numeral kind line formats short is = record {
   written = inl (record { faulty = refl; reply_is = refl });
 }
 
--- ---- the replies of numbers that are moved in the target mode
+-- ---- the replies for numbers that are moved in the target mode
 pub fault_reply : (s : Settings) (numeral message : List ℕ) → asks_a_line s.spelling s.target_mode ≡ false → IsMovedAnswer s numeral (fault_answer message) → IsReply s numeral (fault_answer message)
 fault_reply s numeral message moved is = record {
   answer = fault_answer message;
@@ -226,7 +222,7 @@ moved_reply s numeral text bits o moved is shortest wide = record {
   });
 }
 
--- a number of the source is replied to with what is pushed of it
+-- the bytes pushed for a number of the source are the reply to its numeral
 pub pushed_reply : (s : Settings) (numeral : List ℕ) (number : ℤ) (out : Bool) (before after : List ℕ) (fault : Bool) → AreFormats s → asks_a_line s.spelling s.target_mode ≡ false → length (asking_line s numeral) ≤ longest_line
     → IsSource s.spelling s numeral number out → HasPushed s number out before after fault → AppendsAnswer (IsReply s) 192 numeral before after fault
 pushed_reply s numeral number out before after true formats moved short source pushed =
@@ -256,7 +252,7 @@ pushed_reply s numeral number out before after false formats moved short source 
       short = omega (arith, pushed.short, ap length pushed.appended, length-append before text);
     }
 
--- one that says none is replied to with why
+-- the message is the reply to a numeral that gives no number of the source
 pub unsourced_reply : (s : Settings) (numeral message before after : List ℕ) → asks_a_line s.spelling s.target_mode ≡ false → length (asking_line s numeral) ≤ longest_line → length message ≤ 64
     → IsNoSource s.spelling s numeral message → after ≡ before ++ (fault_answer message).text → AppendsAnswer (IsReply s) 192 numeral before after true
 unsourced_reply s numeral message before after moved short few none appended =

@@ -1,4 +1,4 @@
--- Blocks that were written one after another.
+-- Blocks, written one after another.
 use Rattle.std.proofs.Common.{◌≡◌, ℕ, List, [], ◌∷◌, ◌++◌, Bool, true, false, ◌||◌, flat_map, map, drop, get_or, length, ◌<◌, arith, refl, sym, ap, ◌∙◌, subst, append_assoc, append-nil}
 use Rattle.std.specs.declared.option.Option.{Option}
 use Rattle.std.specs.Io.KnownBytes.{Appends}
@@ -10,12 +10,11 @@ use Rattle.fixed_show.specs.declared.form.Form.{Form}
 use Rattle.fixed_command.specs.Blocks.{BreaksBlocks, IsAnswered, WritesBlocks, answers_text, ending, lead, next_text}
 use Rattle.fixed_command.specs.declared.blocks.Question.{Question}
 
--- whether there is a block
 abbrev pub has_block : List AnswerText → Bool
 has_block [] = false
 has_block (b ∷ blocks) = true
 
--- the answers to the words so far were written
+-- the answers to the first words were written, and `rest` are the other words
 pub record HasWritten (form : Form) (q : Question) (words rest : List (List ℕ)) (before now : Option (List ℕ)) (begun fault : Bool) : Type 0 where
   pub done : List (List ℕ)
   pub split : words ≡ done ++ rest
@@ -87,7 +86,7 @@ broken form q words rest word block before now next begun fault so_far is cut =
 pub all_written : (form : Form) (q : Question) (words : List (List ℕ)) (before now : Option (List ℕ)) (begun fault : Bool) → HasWritten form q words [] before now begun fault → WritesBlocks form q words before now fault
 all_written form q words before now begun fault so_far = subst (λ ws. WritesBlocks form q ws before now fault) (sym (so_far.split ∙ append-nil so_far.done)) so_far.writes
 
--- ---- the words that are left, one by one
+-- ---- the remaining words, one by one
 pub first_and_rest : {X : Type 0} (f : X → List ℕ) (xs : List X) (d : X) → 0 < length xs → map f xs ≡ f (get_or xs 0 d) ∷ map f (drop 1 xs)
 first_and_rest f [] d some = absurd (omega (arith, some))
 first_and_rest f (x ∷ xs) d some = refl

@@ -1,4 +1,4 @@
--- The first colon behind digits.
+-- The first colon after digits.
 use Rattle.std.proofs.Common.{◌≡◌, ◌∙◌, ℕ, zero, suc, ◌+◌, ◌-◌, ◌<◌, length, take, drop, eqb, true, List, [], ◌∷◌, ◌++◌, get_or, sym, ap, subst, arith}
 use Rattle.std.proofs.Math.ListN.{get_or-append}
 use Rattle.std.proofs.Math.Seq.{drop-append-add, get_or-append_seam, take-append_seam}
@@ -11,7 +11,7 @@ use Rattle.memchr.specs.Find.{NoneBefore, Nowhere, Passes, is_byte}
 colon_is : (b : ℕ) → eqb b 58 ≡ true → b ≡ 58
 colon_is b is = grind (arith, common_steps)
 
--- no digit is a colon
+-- a digit is not a colon
 pub no_colon : (ds : List ℕ) (k : ℕ) → AllDigits 10 ds → k < length ds → eqb (get_or ds k 0) 58 ≡ true → ⊥
 no_colon [] k digits below is = absurd (omega (arith, below))
 no_colon (c ∷ cs) zero digits below is =
@@ -38,7 +38,7 @@ colon_place ds rest end digits first here = between end (length ds)
 pub some_colon : (ds rest : List ℕ) → Nowhere (Passes (is_byte 58) (ds ++ 58 ∷ rest)) 0 (length (ds ++ 58 ∷ rest)) → ⊥
 some_colon ds rest none = none (length ds) (omega arith) (omega (arith, length-append ds (58 ∷ rest))) (at_seam ds rest)
 
--- what stands before the colon, and behind it
+-- the text before the colon, and the text after it
 pub before_colon : (ds rest text : List ℕ) (end : ℕ) → text ≡ ds ++ 58 ∷ rest → end ≡ length ds → take end text ≡ ds
 before_colon ds rest text end same place = ap (λ n. take n text) place ∙ (ap (take (length ds)) same ∙ take-append_seam ds (58 ∷ rest))
 

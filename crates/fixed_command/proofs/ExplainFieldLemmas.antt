@@ -1,4 +1,4 @@
--- What more is said of a field that is refused.
+-- The explanation of a refused field: the bytes of its numeral, and a place in the field.
 use Rattle.std.proofs.Common.{◌≡◌, ◌∙◌, ◌==◌, ◌+◌, ◌<◌, ◌≤◌, ◌++◌, ℕ, suc, zero, Bool, true, false, List, [], ◌∷◌, append-nil, arith, ap, drop, get_or, if◌then◌else◌, length, length-append, refl, sym, take}
 use Rattle.std.specs.List.{flat_map, list_any}
 use Rattle.std.proofs.lemmas.List.{take-append-le, take_all}
@@ -6,7 +6,7 @@ use Rattle.fixed_command.specs.Explained.{place_of}
 use Rattle.fixed_command.specs.Fields.{read_for, swapped}
 use Rattle.fixed_command.proofs.FieldLemmas.{read_more}
 
--- ---- at most n bytes
+-- ---- the first `n` bytes of the numeral
 take_again : (n : ℕ) (xs ys : List ℕ) → take n (take n xs ++ ys) ≡ take n (xs ++ ys)
 take_again zero xs ys = refl
 take_again (suc n) [] ys = refl
@@ -20,7 +20,7 @@ looked_more n thousands decimal bytes k numeral more low e f =
     let front : List ℕ = flat_map (read_for thousands decimal) (take k bytes) in
     f ∙ (ap (λ (l : List ℕ). take n (l ++ r)) e ∙ (take_again n front r ∙ ap (take n) (sym (read_more thousands decimal bytes k low))))
 
--- a byte of which nothing is read, one at which there is no room left, and another
+-- a separator adds no byte, a numeral of `n` bytes is full, and another byte is added
 pub looked_none : (n : ℕ) (numeral thousands : List ℕ) (decimal byte : ℕ) → length numeral ≤ n → list_any (λ b. b == byte) thousands ≡ true
     → numeral ≡ take n (numeral ++ read_for thousands decimal byte)
 looked_none n numeral thousands decimal byte fits e =
@@ -35,7 +35,7 @@ looked_some n numeral more thousands decimal byte room e f =
     let one : List ℕ = swapped decimal byte ∷ [] in
     f ∙ sym (ap (λ (is : Bool). take n (numeral ++ (if is then [] else one))) e ∙ take_all n (numeral ++ one) (omega (arith, length-append numeral one, room)))
 
--- ---- places
+-- ---- the place in the field
 none_left : (thousands bytes : List ℕ) → place_of thousands bytes 0 ≡ 0
 none_left thousands [] = refl
 none_left thousands (byte ∷ bytes) = refl

@@ -1,15 +1,14 @@
--- What is read for the bytes of a field.
+-- The numeral that the bytes of a field are read as, and the reply to it.
 use Rattle.std.proofs.Common.{◌≡◌, ◌∙◌, ◌==◌, ◌&&◌, ◌+◌, ◌-◌, ◌<◌, ◌≤◌, ℕ, zero, suc, Option, List, [], ◌∷◌, ◌++◌, Bool, true, false, not, subst, length, map, take, take-suc, get_or, add-one, append-nil, drop, drop-cons, refl, sym, ap, arith}
 use Rattle.std.specs.List.{flat_map, starts_with}
-use Rattle.std.proofs.lemmas.List.{drop_all, map_more}
+use Rattle.std.proofs.lemmas.List.{drop_all}
 use Rattle.std.proofs.lemmas.Grind.{flat_map-append}
 use Rattle.line_engine.specs.AnswerText.{AnswerText}
 use Rattle.fixed_numeral.specs.Numeral.{base}
 use Rattle.fixed_numeral.specs.declared.radix.Radix.{Radix}
-use Rattle.fixed_respell.specs.Language.{fault_answer}
 use Rattle.fixed_command.specs.Fields.{IsFieldOutcome, IsFieldOutcomeBy, IsNumeralOutcome, IsReadOutcome}
 use Rattle.fixed_command.specs.declared.outcome.Outcome.{Outcome}
-use Rattle.fixed_command.specs.Fields.{IsEmptyReply, IsFieldReply, IsFieldReplyBy, IsPointReply, IsReadReply, after_sign, are_groups, bare, digits_of, field_numeral, has_part, is_digit, is_grouped, is_misplaced, marked, misplaced_message, read_for, swapped}
+use Rattle.fixed_command.specs.Fields.{IsFieldReply, IsPointReply, IsReadReply, after_sign, are_groups, bare, digits_of, field_numeral, has_part, is_digit, is_grouped, is_misplaced, marked, read_for, swapped}
 use Rattle.fixed_command.specs.declared.convert.Settings.{Settings}
 use Rattle.fixed_command.specs.declared.field.FieldForm.{FieldForm}
 
@@ -26,12 +25,12 @@ read_more thousands decimal bytes k low =
 same_byte : (byte : ℕ) → swapped 46 byte ≡ byte
 same_byte byte = grind arith
 
--- without separators, and with the point before a fraction, each byte is read as it is
+-- without separators and with a decimal point, each byte is read as itself
 pub plain_read : (bytes : List ℕ) → flat_map (read_for [] 46) bytes ≡ bytes
 plain_read [] = refl
 plain_read (byte ∷ rest) = ap (λ b. b ∷ flat_map (read_for [] 46) rest) (same_byte byte) ∙ ap (λ l. byte ∷ l) (plain_read rest)
 
--- so the reply to a field that is not empty is that to its bytes
+-- without separators and with a decimal point, the reply to a field is the reply to its bytes
 no_part : (bytes : List ℕ) → has_part [] bytes ≡ false
 no_part [] = refl
 no_part (byte ∷ rest) = no_part rest
@@ -56,36 +55,7 @@ plain_reply form radix A field bytes reply same decimal thousands answer =
 faulty : List ℕ → AnswerText
 faulty text = record { text = text; fault = true }
 
-pub misplaced_reply : (form : FieldForm) (radix : Radix) (A : List ℕ → AnswerText → Type 0) (field bytes out : List ℕ) → is_misplaced form radix bytes ≡ true
-    → out ≡ (fault_answer misplaced_message).text → IsReadReply (is_misplaced form radix bytes) form A field (record { text = out; fault = true })
-unfolding faulty
-misplaced_reply form radix A field bytes out e is = subst (λ b. IsReadReply b form A field (faulty out)) (sym e) (ap faulty is)
-
-pub read_reply : (form : FieldForm) (radix : Radix) (A : List ℕ → AnswerText → Type 0) (field bytes : List ℕ) (reply : AnswerText) → bytes ≡ bare form field → is_misplaced form radix bytes ≡ false
-    → A (flat_map (read_for form.thousands.now form.decimal) bytes) reply → IsReadReply (is_misplaced form radix bytes) form A field reply
-read_reply form radix A field bytes reply same e answer =
-    let numeral : flat_map (read_for form.thousands.now form.decimal) bytes ≡ field_numeral form field = ap (λ l. flat_map (read_for form.thousands.now form.decimal) l) same in
-    subst (λ b. IsReadReply b form A field reply) (sym e) (subst (λ l. A l reply) numeral answer)
-
--- ---- by whether a field is empty
-pub empty_field : (form : FieldForm) (radix : Radix) (A : List ℕ → AnswerText → Type 0) (field bytes : List ℕ) (reply : AnswerText) → bytes ≡ bare form field → (length bytes == 0) ≡ true
-    → IsEmptyReply form.empty A reply → IsPointReply form radix A field reply
-empty_field form radix A field bytes reply same none answer =
-    let empty : (length (bare form field) == 0) ≡ true = ap (λ (l : List ℕ). length l == 0) (sym same) ∙ none in
-    subst (λ b. IsFieldReplyBy b form radix A field reply) (sym empty) answer
-
-pub some_field : (form : FieldForm) (radix : Radix) (A : List ℕ → AnswerText → Type 0) (field bytes : List ℕ) (reply : AnswerText) → bytes ≡ bare form field → (length bytes == 0) ≡ false
-    → IsReadReply (is_misplaced form radix bytes) form A field reply → IsPointReply form radix A field reply
-some_field form radix A field bytes reply same some answer =
-    let empty : (length (bare form field) == 0) ≡ false = ap (λ (l : List ℕ). length l == 0) (sym same) ∙ some in
-    subst (λ b. IsFieldReplyBy b form radix A field reply) (sym empty) (subst (λ l. IsReadReply (is_misplaced form radix l) form A field reply) same answer)
-
--- ---- the mark of an answer
-pub marked_next : (mark : ℕ) (bytes out more : List ℕ) (k byte : ℕ) → k < length bytes → out ≡ map (marked mark) (take k bytes) → byte ≡ get_or bytes k 0
-    → more ≡ out ++ marked mark byte ∷ [] → more ≡ map (marked mark) (take (k + 1) bytes)
-marked_next mark bytes out more k byte low before is next =
-    next ∙ (ap (λ (b : ℕ). out ++ marked mark b ∷ []) is ∙ (ap (λ (l : List ℕ). l ++ marked mark (get_or bytes k 0) ∷ []) before ∙ sym (map_more (marked mark) bytes k 0 low)))
-
+-- ---- the decimal mark of an answer
 same_point : (byte : ℕ) → marked 46 byte ≡ byte
 same_point byte = grind arith
 
@@ -96,20 +66,11 @@ point_stays (byte ∷ rest) = ap (λ b. b ∷ map (marked 46) rest) (same_point 
 clean : List ℕ → AnswerText
 clean text = record { text = text; fault = false }
 
-pub refused_field : (form : FieldForm) (radix : Radix) (A : List ℕ → AnswerText → Type 0) (field text : List ℕ) → IsPointReply form radix A field (record { text = text; fault = true })
-    → IsFieldReply form radix A field (record { text = text; fault = true })
-refused_field form radix A field text reply = (record { text = text; fault = true }, reply, refl)
-
 pub point_field : (form : FieldForm) (radix : Radix) (A : List ℕ → AnswerText → Type 0) (field text : List ℕ) → form.mark ≡ 46 → IsPointReply form radix A field (record { text = text; fault = false })
     → IsFieldReply form radix A field (record { text = text; fault = false })
 unfolding clean
 point_field form radix A field text point reply =
     (clean text, reply, ap clean (sym (ap (λ (m : ℕ). map (marked m) text) point ∙ point_stays text)))
-
-pub marked_field : (form : FieldForm) (radix : Radix) (A : List ℕ → AnswerText → Type 0) (field text new : List ℕ) → new ≡ map (marked form.mark) text → IsPointReply form radix A field (record { text = text; fault = false })
-    → IsFieldReply form radix A field (record { text = new; fault = false })
-unfolding clean
-marked_field form radix A field text new is reply = (clean text, reply, ap clean is)
 
 -- ---- groups of digits
 pub no_digits : (hex : Bool) (bytes : List ℕ) (k : ℕ) → k < length bytes → is_digit hex (get_or bytes k 0) ≡ false → digits_of hex (drop k bytes) ≡ 0
@@ -124,7 +85,7 @@ pub last_digit : (hex : Bool) (bytes : List ℕ) (k : ℕ) → length bytes ≤ 
 unfolding digits_of
 last_digit hex bytes k high = ap (digits_of hex) (drop_all k bytes high)
 
--- after a separator come three digits, or not
+-- after a separator come three digits, or the groups are wrong
 abbrev pub starts : List ℕ → List ℕ → Bool
 starts separator bytes = starts_with (λ a b. a == b) bytes separator
 
@@ -161,7 +122,7 @@ pub groups_ended : (most : ℕ) (hex : Bool) (separator bytes : List ℕ) → 0 
 groups_ended zero hex separator bytes some ends = absurd (omega arith)
 groups_ended (suc n) hex separator bytes some ends = groups_end n hex separator bytes ends
 
--- ---- how a field comes through
+-- ---- the outcome of a field
 pub read_outcome : (form : FieldForm) (s : Settings) (field bytes text : List ℕ) (found : Option Outcome) → bytes ≡ bare form field → (length bytes == 0) ≡ false
     → is_misplaced form s.radix bytes ≡ false → text ≡ flat_map (read_for form.thousands.now form.decimal) bytes → IsReadOutcome s text found → IsFieldOutcome form s field found
 read_outcome form s field bytes text found same some placed is outcome =

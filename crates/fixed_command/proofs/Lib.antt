@@ -1,16 +1,20 @@
--- What the proofs of the crates above may cite
+-- For the proofs of dependent crates:
 pub mod Public
--- What no other crate can name
+-- Private to this crate:
 mod AmountLemmas
 mod AskingLemmas
 mod BlockLemmas
 mod ColonLemmas
+mod ErrorLineLemmas
 mod ExplainFieldLemmas
 mod ExplainLawLemmas
 mod FieldLemmas
 mod OutcomeLemmas
 mod OutcomeNumbers
+mod OverflowLemmas
 mod RefusedLemmas
 mod RunLawLemmas
+mod ShownNameLemmas
 mod NameLawLemmas
 mod WordLemmas
+mod RenamedLemmas

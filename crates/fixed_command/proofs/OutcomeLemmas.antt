@@ -1,4 +1,4 @@
--- A numeral comes through in one way.
+-- A numeral has at most one outcome.
 use Rattle.std.proofs.Common.{◌≡◌, ◌∙◌, ◌↔◌, ◌||◌, ℕ, List, IsTrue, sym, ap, subst, inl, inr}
 use Rattle.fixed_command.specs.Convert.{AreFormats}
 use Rattle.fixed_command.specs.Laws.{OutcomeIsTheOne}

@@ -1,25 +1,23 @@
--- A multiple of a number leaves nothing over.
-use Rattle.std.proofs.Common.{◌≡◌, ◌∙◌, ◌↔◌, ◌<◌, ◌/◌, ◌%◌, ◌==◌, ◌&&◌, ℕ, Bool, true, false, IsTrue, refl, sym, ap, arith, true≢false}
-use Rattle.std.proofs.Math.Nat.{mul-mod_left}
+-- The test of multiples: a multiple is its quotient times the divisor.
+use Rattle.std.proofs.Common.{◌≡◌, ◌∙◌, ◌↔◌, ◌<◌, ◌*◌, ◌/◌, ◌==◌, ◌&&◌, ℕ, Bool, true, false, IsTrue, refl, sym, ap, arith, true≢false}
+use Rattle.std.proofs.Math.Nat.{mul-div_cancel}
 use Rattle.std.proofs.lemmas.Bool.{eqb-true}
+use Rattle.std.proofs.lemmas.Bool.Decides.{nat_tests}
 use Rattle.fixed_read.specs.Reading.{IsMultipleOf}
 
-none_over : (n d : ℕ) → 0 < d → n % d ≡ 0 → IsMultipleOf d n
-none_over n d some over = (n / d, omega (arith, some, over))
+whole_again : (n d : ℕ) → 0 < d → IsMultipleOf d n → n / d * d ≡ n
+whole_again n d some is = ap (λ m. m / d * d) is.1 ∙ (ap (λ m. m * d) (mul-div_cancel is.0 some) ∙ sym is.1)
 
-no_rest : (n d : ℕ) → IsMultipleOf d n → n % d ≡ 0
-no_rest n d is = ap (λ m. m % d) is.1 ∙ mul-mod_left is.0 d
+equal : (m n : ℕ) → m ≡ n → (m == n) ≡ true
+equal m n e = grind (arith, nat_tests)
 
-eqb-zero : (n : ℕ) → n ≡ 0 → (n == 0) ≡ true
-eqb-zero n e = ap (λ m. m == 0) e
-
-pub is_multiple_of : (n d : ℕ) → 0 < d → (b : Bool) → b ≡ (n % d == 0) → IsTrue b ↔ IsMultipleOf d n
+pub is_multiple_of : (n d : ℕ) → 0 < d → (b : Bool) → b ≡ (n / d * d == n) → IsTrue b ↔ IsMultipleOf d n
 is_multiple_of n d some b same = (
-  (λ t. none_over n d some (eqb-true (n % d) 0 (sym same ∙ t))),
-  (λ is. same ∙ eqb-zero (n % d) (no_rest n d is)),
+  (λ t. (n / d, sym (eqb-true (n / d * d) n (sym same ∙ t)))),
+  (λ is. same ∙ equal (n / d * d) n (whole_again n d some is)),
 )
 
--- ---- whether nothing is rounded
+-- ---- two tests together
 both_true : (w m : Bool) → IsTrue w → IsTrue m → IsTrue (w && m)
 both_true true true x y = refl
 both_true true false x y = absurd (true≢false (sym y))

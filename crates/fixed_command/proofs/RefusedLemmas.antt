@@ -1,4 +1,4 @@
--- Words that are passed over one after another, since none of them is refused.
+-- Words that are passed over one after another, because they are not refused.
 use Rattle.std.proofs.Common.{◌≡◌, ℕ, ◌+◌, ◌==◌, Bool, map, List, [], ◌∷◌, ◌++◌, true, length, arith, refl, sym, ap, ◌∙◌, subst, append_assoc, append-nil, length-append}
 use Rattle.std.specs.Prelude.{All}
 use Rattle.std.proofs.lemmas.Bool.{eqb-true}
@@ -7,7 +7,7 @@ use Rattle.fixed_command.specs.Blocks.{IsBlock}
 use Rattle.fixed_command.specs.Refused.{IsClean, IsFirstRefused}
 use Rattle.fixed_command.specs.declared.blocks.Question.{Question}
 
--- so many words are passed over, and the others are left
+-- the first `place` words are not refused, and `rest` are the other words
 pub record HasPassed (q : Question) (words rest : List (List ℕ)) (place : ℕ) : Type 0 where
   pub some : List (List ℕ)
   pub cut : words ≡ some ++ rest
@@ -39,7 +39,7 @@ stopped q words rest word block place so_far refused = record {
   refused = refused;
 }
 
--- ---- what a call that answers one word leaves
+-- ---- the result of a call that answers one word
 pub as_block : (q : Question) (word text out : List ℕ) (result fault : Bool) → IsBlock q word (record { text = text; fault = result }) → out ≡ text → result ≡ fault → IsBlock q word (record { text = out; fault = fault })
 as_block q word text out result fault is same flag = subst (λ t. IsBlock q word (record { text = t; fault = fault })) (sym same) (subst (λ b. IsBlock q word (record { text = text; fault = b })) flag is)
 

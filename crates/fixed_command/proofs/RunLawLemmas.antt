@@ -1,4 +1,4 @@
--- One first refused word, and one end.
+-- A list of words has at most one first refused word, and a run has one end.
 use Rattle.std.proofs.Common.{◌≡◌, ◌∙◌, ◌⊎◌, ◌++◌, ℕ, suc, Bool, true, false, List, [], ◌∷◌, Option, Some, length, ap, inl, inr, refl, sym, subst}
 use Rattle.std.specs.Prelude.{All}
 use Rattle.std.proofs.lemmas.Bool.{false≢true}
@@ -9,17 +9,18 @@ use Rattle.line_engine.specs.WholeRun.{WritesAnswer}
 use Rattle.line_engine.specs.declared.status.Status.{Status}
 use Rattle.line_engine.specs.declared.status.Status.TheVariants.{Done, Faults, Usage, ReadFault, WriteFault, NoMemory, TooLong}
 use Rattle.line_engine.proofs.Public.{not_failed, output_one, whole_output_one}
+use Rattle.fixed_amounts.proofs.Public.{amount_block_one, facts_apart}
 use Rattle.fixed_show.proofs.Public.{part_fault_one, part_has_no_fault, show_facts_apart, show_refusal_one, word_fault_one, word_has_no_fault}
 use Rattle.fixed_show.specs.BitsBlock.{fault_message}
 use Rattle.fixed_show.specs.Forms.{refusal}
 use Rattle.fixed_show.specs.PartText.{part_message}
 use Rattle.fixed_show.specs.declared.form.Form.{Form}
 use Rattle.fixed_show.specs.declared.form.Form.TheVariants.{Lines, Members}
-use Rattle.fixed_command.specs.Blocks.{IsAnswered, IsBlock, IsFormatAnswer, IsObject, WritesBlocks}
+use Rattle.fixed_command.specs.Blocks.{IsAnswered, IsBlock, IsDecimalAnswer, IsFormatAnswer, IsObject, WritesBlocks}
 use Rattle.fixed_command.specs.Refused.{IsClean}
 use Rattle.fixed_command.specs.RunLaws.{BlocksEndIsTheOne, FirstRefusedIsTheOne, LineRunIsTheOne, WholeRunIsTheOne}
 use Rattle.fixed_command.specs.declared.blocks.Question.{Question}
-use Rattle.fixed_command.specs.declared.blocks.Question.TheVariants.{Bits, Format, Part, Show}
+use Rattle.fixed_command.specs.declared.blocks.Question.TheVariants.{Amount, Bits, Format, Part, Show}
 
 abbrev refused : List ℕ → AnswerText
 refused text = record { text = text; fault = true }
@@ -27,35 +28,48 @@ refused text = record { text = text; fault = true }
 abbrev clean : List ℕ → AnswerText
 clean text = record { text = text; fault = false }
 
--- ---- a word is refused with one block, or not at all
+-- ---- a word has an answer or one refusal
+no_decimal_one : (form : Form) (word a b : List ℕ) → IsDecimalAnswer form word (refused a) → IsDecimalAnswer form word (refused b) → a ≡ b
+no_decimal_one form word a b (inl x) y = absurd (false≢true (sym (ap (λ t. t.fault) x.answer_is)))
+no_decimal_one form word a b (inr x) (inl y) = absurd (false≢true (sym (ap (λ t. t.fault) y.answer_is)))
+no_decimal_one form word a b (inr x) (inr y) = ap (λ t. t.text) (x.answer_is ∙ sym y.answer_is)
+
 refusal_one : (q : Question) (word a b : List ℕ) → IsBlock q word (refused a) → IsBlock q word (refused b) → a ≡ b
 refusal_one (Show r f p m) word a b x y = (show_refusal_one m r word f p true a b x y).1
 refusal_one (Bits r f) word a b x y =
     x.facts_are ∙ ap (λ w. refusal Lines (fault_message w)) (word_fault_one r f word x.fault y.fault x.is_fault y.is_fault) ∙ sym y.facts_are
 refusal_one (Part r part f) word a b x y =
     x.facts_are ∙ ap (λ w. refusal Lines (part_message w)) (part_fault_one r part f word x.fault y.fault x.is_fault y.is_fault) ∙ sym y.facts_are
+refusal_one (Amount question) word a b x y = (amount_block_one question word true true a b x y).1
 refusal_one Format word a b (inl x) y = absurd (false≢true (sym x.clean))
 refusal_one Format word a b (inr x) (inl y) = absurd (false≢true (sym y.clean))
-refusal_one Format word a b (inr x) (inr y) = ap (λ t. t.text) (x.answer_is ∙ sym y.answer_is)
+refusal_one Format word a b (inr x) (inr y) = no_decimal_one Lines word a b x.decimal y.decimal
+
+no_decimal : (form : Form) (word a b : List ℕ) → IsDecimalAnswer form word (refused a) → IsDecimalAnswer form word (clean b) → ⊥
+no_decimal form word a b (inl x) y = false≢true (sym (ap (λ t. t.fault) x.answer_is))
+no_decimal form word a b (inr x) (inl y) = x.none y.places y.word_is
+no_decimal form word a b (inr x) (inr y) = false≢true (ap (λ t. t.fault) y.answer_is)
 
 no_name : (form : Form) (word a b : List ℕ) → IsFormatAnswer form word (refused a) → IsFormatAnswer form word (clean b) → ⊥
 no_name form word a b (inl x) y = false≢true (sym x.clean)
 no_name form word a b (inr x) (inl y) = x.none y.format y.word_is
-no_name form word a b (inr x) (inr y) = false≢true (ap (λ t. t.fault) y.answer_is)
+no_name form word a b (inr x) (inr y) = no_decimal form word a b x.decimal y.decimal
 
 not_both : (q : Question) (word a b : List ℕ) → IsBlock q word (refused a) → IsBlock q word (clean b) → ⊥
 not_both (Show r f p m) word a b x y = show_facts_apart Lines m r word f p a b x y
 not_both (Bits r f) word a b x y = word_has_no_fault r f word x.fault y.bits x.is_fault y.is_word
 not_both (Part r part f) word a b x y = part_has_no_fault r part f word x.fault y.bits x.is_fault y.is_part
+not_both (Amount question) word a b x y = facts_apart Lines question word a b x y
 not_both Format word a b x y = no_name Lines word a b x y
 
 not_both_objects : (q : Question) (word a b : List ℕ) → IsObject q word (refused a) → IsObject q word (clean b) → ⊥
 not_both_objects (Show r f p m) word a b x y = show_facts_apart Members m r word f p x.members y.members x.are_facts y.are_facts
 not_both_objects (Bits r f) word a b x y = word_has_no_fault r f word x.are_facts.fault y.are_facts.bits x.are_facts.is_fault y.are_facts.is_word
 not_both_objects (Part r part f) word a b x y = part_has_no_fault r part f word x.are_facts.fault y.are_facts.bits x.are_facts.is_fault y.are_facts.is_part
+not_both_objects (Amount question) word a b x y = facts_apart Members question word x.members y.members x.are_facts y.are_facts
 not_both_objects Format word a b x y = no_name Members word a b x y
 
--- ---- the first of some
+-- ---- the first refused word
 first_one : (q : Question) (xs ys : List (List ℕ)) (w v : List ℕ) (more others : List (List ℕ)) (a b : List ℕ) → xs ++ w ∷ more ≡ ys ++ v ∷ others
     → All (IsClean q) xs → All (IsClean q) ys → IsBlock q w (refused a) → IsBlock q v (refused b) → (length xs ≡ length ys) × (a ≡ b)
 first_one q [] [] w v more others a b e c d x y =

@@ -1,4 +1,4 @@
--- What is printed of bits is a word of the format.
+-- Printed bits are a register word of the format.
 use Rattle.std.proofs.Common.{◌≡◌, ◌∙◌, ◌==◌, ◌||◌, ◌+◌, ◌-◌, ◌*◌, ◌/◌, ◌%◌, ◌^◌, ◌<◌, ◌≤◌, ℕ, zero, suc, ℤ, pos, negsuc, List, [], ◌∷◌, ◌++◌, Bool, true, false, if◌then◌else◌, Option, Some, None, is_some, drop, length, codes, refl, sym, ap, subst, arith, inl, inr, mod-eq_of_lt, mod-lt, pow-suc, pow_pos}
 use Rattle.std.specs.Char.{digit_value}
 use Rattle.std.specs.Fmt.{decimal, digit_glyph, signed_decimal}
@@ -24,7 +24,7 @@ use Rattle.fixed_write.proofs.Public.{last_digits_length, last_digits_none, last
 use Rattle.fixed_command.specs.Hex.{hex_digits, hex_text, word_of}
 use Rattle.fixed_command.specs.Laws.{PrintedBitsAreWords}
 
--- ---- bytes that are digits are nothing else
+-- ---- digits are not signs or prefix letters
 no_eq : (b c : ℕ) → (b ≡ c → ⊥) → (b == c) ≡ false
 no_eq b c other = decide (b == c) refl
   where
@@ -118,7 +118,7 @@ hex_word bare ds n all some value =
       number = sym value ∙ ap (digits_value 16) (sym bytes);
     }
 
--- ---- the digits that are printed
+-- ---- the printed digits
 glyph_value : (d : ℕ) → d < 16 → digit_value (digit_glyph false d) ≡ d
 glyph_value d h = grind arith
 
@@ -138,7 +138,7 @@ last_value (suc k) n =
     let split = mod-mul n {m = 16 ^ k} {c = 16} some sixteen in
     rw last_digits_suc (digits_value_push 16 (last_digits 16 false k (n / 16)) (digit_glyph false (n % 16)) ∙ rw (last_value k (n / 16), value, pow-suc 16 k) (sym split))
 
--- ---- the word of bits
+-- ---- bits as an unsigned number
 pub record IsWordOf (n : ℕ) (v : ℤ) : Type 0 where
   pub fits : word_of n v < 2 ^ n
   pub near : DiffersByMultiple (2 ^ n) v (pos (word_of n v))
@@ -178,7 +178,7 @@ hex_value n v width fits =
 hex_some : (n : ℕ) (v : ℤ) → IsWidth n → 0 < length (hex_digits n v)
 hex_some n v width = omega (arith, (digit_count n width).some, last_digits_length 16 false ((n + 3) / 4) (word_of n v))
 
--- ---- words
+-- ---- register words
 printed_decimal : (f : FormatParts) (v : ℤ) → IsWidth f.width → IsInRange f.signed f.width v → IsWord Dec f (signed_decimal v) v
 printed_decimal f (pos n) width range =
     let word = word_is f.signed f.width (pos n) width range in
@@ -204,12 +204,12 @@ printed_decimal f (negsuc n) width range =
       in_range = range;
     })
 
--- a number in hexadecimal after `0x`, in digits enough for it
+-- a number in hexadecimal after `0x`, with enough digits for it
 pub spelled_number : (bare : Radix) (k n : ℕ) → 0 < k → n < 16 ^ k → IsWordText bare (codes "0x" ++ last_digits 16 false k n) n
 spelled_number bare k n some below =
     hex_word bare (last_digits 16 false k n) n (last_all k n) (omega (arith, some, last_digits_length 16 false k n)) (last_value k n ∙ mod-eq_of_lt below)
 
--- all bits of a word in hexadecimal after `0x`, in digits enough for them
+-- all bits of a register word in hexadecimal after `0x`, with enough digits for them
 pub spelled_word : (f : FormatParts) (bare : Radix) (k : ℕ) (v : ℤ) → IsWidth f.width → IsInRange f.signed f.width v → 0 < k → 2 ^ f.width ≤ 16 ^ k → IsWord bare f (codes "0x" ++ last_digits 16 false k (word_of f.width v)) v
 spelled_word f bare k v width range some most =
     let word = word_is f.signed f.width v width range in

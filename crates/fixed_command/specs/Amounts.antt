@@ -1,9 +1,8 @@
--- What a run over lines that say amounts leaves.
+-- What a run over lines with amounts leaves.
 use Rattle.std.specs.Prelude.{◌≡◌, ℕ, List, None}
 use Rattle.std.specs.declared.convert.Infallible.{Infallible}
 use Rattle.fixed_amounts.specs.Reply.{IsReply, fault_text}
 use Rattle.fixed_amounts.specs.declared.fault.AmountFault.{AmountFault}
-use Rattle.fixed_amounts.specs.declared.settings.AmountSettings.{AmountSettings}
 use Rattle.fixed_respell.specs.Refusal.{refusal_message}
 use Rattle.fixed_respell.specs.declared.refusal.Refusal.{Refusal}
 use Rattle.line_engine.specs.AnswerText.{AnswerText}
@@ -19,8 +18,7 @@ use Rattle.run_engine.specs.declared.engine.End.{End}
 use Rattle.run_engine.specs.declared.lines.Lines.{Lines}
 use Rattle.run_engine.specs.declared.pieces.Cut.{Cut}
 use Rattle.run_engine.specs.declared.refusals.Refusals.{Refusals}
-use Rattle.fixed_command.specs.Layout.{IsLaidOut, LineLayout}
-use Rattle.fixed_command.specs.Limits.{no_limit}
+use Rattle.fixed_command.specs.Layout.{IsLaidOut}
 use Rattle.fixed_command.specs.Runs.{outside_at}
 use Rattle.fixed_command.specs.declared.amounts.AmountLines.{AmountLines}
 
@@ -31,13 +29,13 @@ IsAmountLine lines line answer = IsLaidOut lines.layout (IsReply lines.settings)
 abbrev pub AmountMachine : Type 0
 AmountMachine = Lines AmountLines (Refusals (Refusal AmountFault))
 
--- what is made of lines that say amounts, and which refused lines are kept
+-- what is made of lines with amounts, and the record of refused lines
 abbrev pub MakesAmounts : AmountMachine → List ℕ → List ℕ → ℕ → How Infallible → AmountMachine → Type 0
 MakesAmounts first bytes text spent how last = MakesLines (IsAmountLine first.rule) (refusal_message fault_text) Counts
     8 128 first bytes text spent how last
 
--- what a run that ended so has taken, made and written, and which refused lines it has kept
-pub record HasAmountsRun (lines : AmountLines) (before after : Outside) (status : Status)
+-- what a run within a limit has taken, made and written, with this status, and its record of refused lines
+pub record HasAmountsRun (limit : ℕ) (lines : AmountLines) (before after : Outside) (status : Status)
     (refusals : Refusals (Refusal AmountFault)) : Type 0 where
   pub first : AmountMachine
   pub last : Cut AmountMachine
@@ -51,5 +49,5 @@ pub record HasAmountsRun (lines : AmountLines) (before after : Outside) (status 
   pub is_before : outside_at a ≡ before
   pub is_after : outside_at b ≡ after
   pub ends : IsStatus end status
-  pub run : HasRun (λ bytes text spent how it. MakesAmounts first bytes text spent how it.0) last no_limit a b end
+  pub run : HasRun (λ bytes text spent how it. MakesAmounts first bytes text spent how it.0) last limit a b end
   pub kept : refusals ≡ last.0.watch

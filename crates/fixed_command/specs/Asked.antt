@@ -18,21 +18,21 @@ IsPrintWord word Readmemh = word ≡ codes "readmemh"
 IsPrintWord word Value = word ≡ codes "value"
 IsPrintWord word All = word ≡ codes "all"
 
--- a value names a part, and the text is meant where the option is left out
+-- a value names a part; the part is the text if the option is left out
 abbrev pub IsPrintNamed : Option (List ℕ) → Print → Type 0
 IsPrintNamed None print = print ≡ Text
 IsPrintNamed (Some word) print = IsPrintWord word print
 
--- the word of how a line spells a number
+-- the word for how a line spells a number
 abbrev pub spelling_text : Spelling → List ℕ
 spelling_text Numeral = codes "text"
 spelling_text Word = codes "bits"
 
--- a value names what has it for its word, and an option that is left out what is meant then
+-- a value names the element with this word; if the option is left out, the element is `plain`
 abbrev pub IsNamed : (A : Type 0) → (A → List ℕ) → A → Option (List ℕ) → A → Type 0
 IsNamed A text plain None a = a ≡ plain
 IsNamed A text plain (Some word) a = word ≡ text a
 
--- the word of the field of `width` bits from bit `low` on: its highest bit, a colon, and its lowest
+-- the word for the field of `width` bits from bit `low` on: its highest bit, a colon, and its lowest
 abbrev pub field_text : ℕ → ℕ → List ℕ
 field_text width low = signed_decimal (pos (low + width - 1)) ++ (58 ∷ signed_decimal (pos low))

@@ -1,9 +1,11 @@
--- What is written about words: a block of lines for each, or an object of JSON.
+-- The output for words: a block of lines for each, or an object of JSON.
 use Rattle.std.specs.Prelude.{◌≡◌, ◌⊎◌, ℕ, List, [], ◌∷◌, ◌++◌, Bool, true, false, codes, flat_map, take}
 use Rattle.std.specs.declared.option.Option.{Option}
 use Rattle.std.specs.Io.KnownBytes.{Appends}
+use Rattle.fixed_amounts.specs.Facts.{IsAmountBlock, IsAmountObject, format_facts}
+use Rattle.fixed_amounts.specs.Names.{IsDecimalName}
 use Rattle.fixed_bits.specs.Formats.{FormatParts}
-use Rattle.fixed_respell.specs.FormatNames.{IsFormatName}
+use Rattle.fixed_names.specs.Names.{IsName}
 use Rattle.fixed_show.specs.BitsBlock.{IsBitsBlock, IsBitsObject}
 use Rattle.fixed_show.specs.FormatBlock.{IsFormatBlock, IsFormatObject}
 use Rattle.fixed_show.specs.Forms.{refusal}
@@ -19,54 +21,76 @@ use Rattle.line_engine.specs.declared.status.Status.{Status}
 use Rattle.line_engine.specs.declared.status.Status.TheVariants.{Done, Faults, Usage, ReadFault, WriteFault, NoMemory}
 use Rattle.line_engine.specs.declared.status.Status.TheVariants.{TooLong}
 use Rattle.fixed_command.specs.declared.blocks.Question.{Question}
-use Rattle.fixed_command.specs.declared.blocks.Question.TheVariants.{Bits, Format, Part, Show}
+use Rattle.fixed_command.specs.declared.blocks.Question.TheVariants.{Amount, Bits, Format, Part, Show}
 
--- text says what there is to know of the format that a word names
+-- the text gives the facts about the format that a word names
 abbrev pub IsFormatText : Form → List ℕ → FormatParts → List ℕ → Type 0
 IsFormatText Lines word f text = IsFormatBlock f text
 IsFormatText Members word f text = IsFormatObject word f text
 
--- what is written of a word that is refused for a cause of the command's own
+-- the output for a word that is refused for a cause of the command's own
 abbrev pub refused_text : Form → List ℕ → List ℕ → List ℕ
 refused_text Lines word message = refusal Lines message
 refused_text Members word message = object_text word (refusal Members message)
 
--- the answer to the name of a format
+-- the facts about a decimal format that a word names
+abbrev pub decimal_format_answer : Form → List ℕ → ℕ → List ℕ
+decimal_format_answer Lines word places = format_facts Lines places
+decimal_format_answer Members word places = object_text word (format_facts Members places)
+
+-- the answer to the name of a decimal format
+pub record IsNamedDecimal (form : Form) (word : List ℕ) (answer : AnswerText) : Type 0 where
+  pub places : ℕ
+  pub word_is : IsDecimalName word places
+  pub answer_is : answer ≡ record { text = decimal_format_answer form word places; fault = false }
+
+-- the fault for a word that names no decimal format
+pub record IsNoDecimal (form : Form) (word : List ℕ) (answer : AnswerText) : Type 0 where
+  pub none : (places : ℕ) → ¬ IsDecimalName word places
+  pub answer_is : answer ≡ record { text = refused_text form word (codes "bad format"); fault = true }
+
+-- the answer to a word as the name of a decimal format
+abbrev pub IsDecimalAnswer : Form → List ℕ → AnswerText → Type 0
+IsDecimalAnswer form word answer = IsNamedDecimal form word answer ⊎ IsNoDecimal form word answer
+
+-- the answer to the name of a binary format
 pub record IsNamedFormat (form : Form) (word : List ℕ) (answer : AnswerText) : Type 0 where
   pub format : FormatParts
-  pub word_is : IsFormatName word format
+  pub word_is : IsName word format
   pub text : IsFormatText form word format answer.text
   pub clean : answer.fault ≡ false
 
--- a fault for a word that names none
-pub record IsNoFormat (form : Form) (word : List ℕ) (answer : AnswerText) : Type 0 where
-  pub none : (f : FormatParts) → ¬ IsFormatName word f
-  pub answer_is : answer ≡ record { text = refused_text form word (codes "bad format"); fault = true }
+-- the answer to any other word
+pub record IsNoBinary (form : Form) (word : List ℕ) (answer : AnswerText) : Type 0 where
+  pub none : (f : FormatParts) → ¬ IsName word f
+  pub decimal : IsDecimalAnswer form word answer
 
--- one of the two
+-- the answer to a word as the name of a format
 abbrev pub IsFormatAnswer : Form → List ℕ → AnswerText → Type 0
-IsFormatAnswer form word answer = IsNamedFormat form word answer ⊎ IsNoFormat form word answer
+IsFormatAnswer form word answer = IsNamedFormat form word answer ⊎ IsNoBinary form word answer
 
 -- the block that answers a question about a word
 abbrev pub IsBlock : Question → List ℕ → AnswerText → Type 0
 IsBlock (Show radix format policy mode) word block = IsShowBlock mode radix word format policy block.fault block.text
 IsBlock (Bits radix format) word block = IsBitsBlock radix format word block.fault block.text
 IsBlock (Part radix part format) word block = IsPartBlock radix part format word block.fault block.text
+IsBlock (Amount question) word block = IsAmountBlock question word block.fault block.text
 IsBlock Format word block = IsFormatAnswer Lines word block
 
--- the object of JSON that does
+-- the JSON object that answers a question about a word
 abbrev pub IsObject : Question → List ℕ → AnswerText → Type 0
 IsObject (Show radix format policy mode) word object = IsShowObject mode radix word format policy object.fault
     object.text
 IsObject (Bits radix format) word object = IsBitsObject radix format word object.fault object.text
 IsObject (Part radix part format) word object = IsPartObject radix part format word object.fault object.text
+IsObject (Amount question) word object = IsAmountObject question word object.fault object.text
 IsObject Format word object = IsFormatAnswer Members word object
 
--- ---- the line of the word above its block: the word as it was given, up to 1,024 bytes
+-- ---- the line above the block of a word: the word as given, up to 1,024 bytes
 abbrev pub head_line : List ℕ → List ℕ
 head_line word = codes "given     " ++ (take 1024 word ++ 10 ∷ [])
 
--- that line, and the block that answers a question about the word
+-- that line, followed by the block that answers a question about the word
 pub record IsHeaded (q : Question) (word : List ℕ) (block : AnswerText) : Type 0 where
   pub body : List ℕ
   pub is_body : IsBlock q word (record { text = body; fault = block.fault })
@@ -77,19 +101,19 @@ abbrev pub IsAnswered : Form → Question → List ℕ → AnswerText → Type 0
 IsAnswered Lines q word answer = IsHeaded q word answer
 IsAnswered Members q word answer = IsObject q word answer
 
--- ---- what is written for some words
--- before an answer: an empty line, where a block was written before
+-- ---- the output for some words
+-- before an answer: an empty line, if a block was written before
 abbrev pub lead : Form → Bool → List ℕ
 lead form false = []
 lead Lines true = 10 ∷ []
 lead Members true = []
 
--- behind it: an object has a line of its own
+-- after an answer: an object has a line of its own
 abbrev pub ending : Form → List ℕ
 ending Lines = []
 ending Members = 10 ∷ []
 
--- an answer after another one
+-- an answer that follows another one
 abbrev pub next_text : Form → AnswerText → List ℕ
 next_text form answer = lead form true ++ (answer.text ++ ending form)
 
@@ -97,7 +121,7 @@ abbrev pub answers_text : Form → List AnswerText → List ℕ
 answers_text form [] = []
 answers_text form (answer ∷ answers) = answer.text ++ (ending form ++ flat_map (next_text form) answers)
 
--- for each word, in order and nothing else, its answer was written
+-- the answers to the words were written, in order and nothing else
 pub record WritesBlocks (form : Form) (q : Question) (words : List (List ℕ)) (written written' : Option (List ℕ))
     (fault : Bool) : Type 0 where
   pub blocks : List AnswerText
@@ -105,7 +129,7 @@ pub record WritesBlocks (form : Form) (q : Question) (words : List (List ℕ)) (
   pub output : Appends written written' (answers_text form blocks)
   pub faulty : any_fault blocks ≡ fault
 
--- a prefix of the answers to the first words was written
+-- a prefix of the answers to the first of the words was written
 pub record BreaksBlocks (form : Form) (q : Question) (words : List (List ℕ))
     (written written' : Option (List ℕ)) : Type 0 where
   pub some : List (List ℕ)
@@ -115,7 +139,7 @@ pub record BreaksBlocks (form : Form) (q : Question) (words : List (List ℕ))
   pub answers : AreAnswers (IsAnswered form q) some blocks
   pub output : AppendsPrefix written written' (answers_text form blocks)
 
--- what a run over words that ended so has written, and whether a write failed
+-- what a run over words with this status has written, and whether a write failed
 abbrev pub BlocksRun : Form → Question → List (List ℕ) → Option (List ℕ) → Option (List ℕ) → ℕ → ℕ → Status → Type 0
 BlocksRun form q words written written' failures failures' Done = WritesBlocks form q words written written' false
     × (failures' ≡ failures)

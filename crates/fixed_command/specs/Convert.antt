@@ -1,4 +1,4 @@
--- What is written for a numeral, or for the word of a register, that is converted.
+-- The output for a converted numeral or register word.
 use Rattle.std.specs.Prelude.{◌≡◌, ◌⊎◌, ◌==◌, ◌||◌, ◌-◌, ◌<◌, ◌≤◌, ℕ, ℤ, List, [], ◌∷◌, ◌++◌, Bool, true, false}
 use Rattle.std.specs.Prelude.{if◌then◌else◌, get_or, length, take}
 use Rattle.std.specs.Fmt.{signed_decimal}
@@ -27,7 +27,7 @@ use Rattle.fixed_command.specs.Printed.{printed}
 use Rattle.fixed_command.specs.declared.spelling.Spelling.{Spelling}
 use Rattle.fixed_command.specs.declared.spelling.Spelling.TheVariants.{Numeral, Word}
 
--- the four words before the numeral, in the line that asks for its conversion
+-- the four words before the numeral, in the line that requests its conversion
 abbrev pub asking_words : Settings → List (List ℕ)
 asking_words s = radix_text s.radix ∷ format_text s.source ∷ format_text s.target ∷ (policy_text s.policy ++ slash
     ∷ mode_text s.mode) ∷ []
@@ -36,38 +36,38 @@ asking_words s = radix_text s.radix ∷ format_text s.source ∷ format_text s.t
 abbrev pub asking_line : Settings → List ℕ → List ℕ
 asking_line s numeral = spaced (asking_words s) numeral
 
--- the two formats are formats
+-- both formats are valid
 pub record AreFormats (s : Settings) : Type 0 where
   pub source : IsFormat s.source.width s.source.frac
   pub target : IsFormat s.target.width s.target.frac
 
--- ---- what a line says of the source, by how it spells a number
--- this number of the source, and whether what was read was out of its range
+-- ---- the source number on a line, by its spelling
+-- the line gives this number of the source, and `out` says whether what was read was out of its range
 abbrev pub IsSource : Spelling → Settings → List ℕ → ℤ → Bool → Type 0
 IsSource Numeral s numeral number out = IsReadAs s.mode s.radix numeral s.source s.policy number out
 IsSource Word s word number out = IsWord s.radix s.source word number × (out ≡ false)
 
--- none, and this message says why
+-- the line gives no number of the source, and this message says why
 abbrev pub IsNoSource : Spelling → Settings → List ℕ → List ℕ → Type 0
 IsNoSource Numeral s numeral message = (kind : ParseErrorKind)
     × IsUnread s.mode s.radix numeral s.source s.policy kind × (message ≡ message_of kind)
 IsNoSource Word s word message = (fault : WordFault) × HasWordFault s.radix s.source word fault
     × (message ≡ fault_message fault)
 
--- ---- the answer where the number is moved to the target in the target mode
+-- ---- the answer if the number is moved to the target in the target mode
 -- the line is too long
 pub record IsLong (s : Settings) (numeral : List ℕ) (answer : AnswerText) : Type 0 where
   pub long : longest_line < length (asking_line s numeral)
   pub answer_is : answer ≡ fault_answer (respell.fault_message LineTooLong)
 
--- it says no number of the source
+-- the line gives no number of the source
 pub record IsUnsourced (s : Settings) (numeral : List ℕ) (answer : AnswerText) : Type 0 where
   pub short : length (asking_line s numeral) ≤ longest_line
   pub message : List ℕ
   pub none : IsNoSource s.spelling s numeral message
   pub answer_is : answer ≡ fault_answer message
 
--- the number that it says, moved, has no image in the target
+-- the number on the line has no image in the target
 pub record IsUnmoved (s : Settings) (numeral : List ℕ) (answer : AnswerText) : Type 0 where
   pub short : length (asking_line s numeral) ≤ longest_line
   pub formats : AreFormats s
@@ -77,7 +77,8 @@ pub record IsUnmoved (s : Settings) (numeral : List ℕ) (answer : AnswerText) :
   pub none : IsNotReformatted s.target_mode s.policy s.target number s.source.frac
   pub answer_is : answer ≡ fault_answer (message_of Overflow)
 
--- it has one: the shortest decimal of these bits, the bits, and whether one of the two numbers was out of its format
+-- the number has an image: the answer is the shortest decimal of its bits, the bits, and whether one of the two numbers
+-- was out of its format
 pub record IsMovedTo (s : Settings) (numeral : List ℕ) (answer : AnswerText) : Type 0 where
   pub short : length (asking_line s numeral) ≤ longest_line
   pub formats : AreFormats s
@@ -96,8 +97,8 @@ IsMovedAnswer s numeral answer = IsLong s numeral answer
     ⊎ (IsUnsourced s numeral answer ⊎ (IsUnmoved s numeral answer ⊎ IsMovedTo s numeral answer))
 
 -- ---- the answer
--- whether it is that to a line, in which formats are of any width: of a numeral, where the target mode is Floor, as in
--- every line
+-- whether the answer is that to a line with formats of any width: for a numeral, if the target mode is `Floor`, as in
+-- every such line
 abbrev pub asks_a_line : Spelling → ReadMode → Bool
 asks_a_line Numeral Floor = true
 asks_a_line spelling mode = false
@@ -114,7 +115,7 @@ IsAsked s numeral answer = IsAnswerBy (asks_a_line s.spelling s.target_mode) s n
 abbrev pub without_return : List ℕ → List ℕ
 without_return line = if get_or line (length line - 1) 0 == 13 then take (length line - 1) line else line
 
--- the answer is no fault, and the reply is the part of it that is asked for
+-- the answer is not a fault, and the reply is the requested part of it
 pub record IsPart (s : Settings) (answer reply : AnswerText) : Type 0 where
   pub clean : answer.fault ≡ false
   pub text : List ℕ
@@ -129,7 +130,7 @@ pub record IsWholeFault (answer reply : AnswerText) : Type 0 where
   pub faulty : answer.fault ≡ true
   pub reply_is : reply ≡ answer
 
--- the reply to a numeral or a word: of its answer a fault whole, and else the part that is asked for
+-- the reply to a numeral or a word: the whole answer if it is a fault, else the requested part
 pub record IsReply (s : Settings) (numeral : List ℕ) (reply : AnswerText) : Type 0 where
   pub answer : AnswerText
   pub asked : IsAsked s numeral answer

@@ -7,7 +7,7 @@ abbrev pub word_of : ℕ → ℤ → ℕ
 word_of width (pos n) = n
 word_of width (negsuc n) = 2 ^ width - suc n
 
--- a digit for every four bits of the width, from the last one on
+-- one digit for every four bits of the width, the last one for the lowest four
 abbrev pub hex_digits : ℕ → ℤ → List ℕ
 hex_digits width bits = last_digits 16 false ((width + 3) / 4) (word_of width bits)
 

@@ -1,4 +1,4 @@
--- What the laws of this crate say.
+-- The statements of this crate's laws.
 use Rattle.std.specs.Prelude.{◌≡◌, ℕ, ℤ, List}
 use Rattle.fixed_bits.specs.Formats.{FormatParts, IsFormat}
 use Rattle.fixed_bits.specs.Ranges.{IsInRange}
@@ -12,9 +12,8 @@ use Rattle.fixed_command.specs.declared.convert.Settings.{Settings}
 use Rattle.fixed_command.specs.declared.outcome.Outcome.{Outcome}
 use Rattle.fixed_command.specs.declared.print.Print.TheVariants.{Bits, Hex, Readmemh}
 
--- what is printed of bits of a format is a word of the format, and those bits: in decimal without a radix, in
--- hexadecimal
--- after `0x` in every radix, and without it in radix 16
+-- bits of a format, as printed, are a word of the format for those bits: in decimal, for radix 10; in hexadecimal after
+-- `0x`, for every radix, and without `0x`, for radix 16
 pub record PrintedIsWord (f : FormatParts) (bits : ℤ) (answer text : List ℕ) : Type 0 where
   pub decimal : IsWord Dec f (printed Bits f answer text bits) bits
   pub hexadecimal : (bare : Radix) → IsWord bare f (printed Hex f answer text bits) bits
@@ -24,7 +23,7 @@ abbrev pub PrintedBitsAreWords : Type 0
 PrintedBitsAreWords = (f : FormatParts) (bits : ℤ) (answer text : List ℕ) → IsFormat f.width f.frac
     → IsInRange f.signed f.width bits → PrintedIsWord f bits answer text
 
--- a numeral comes through in one way
+-- a numeral has at most one outcome
 abbrev pub OutcomeIsTheOne : Type 0
 OutcomeIsTheOne = (s : Settings) (numeral : List ℕ) (a b : Outcome) → AreFormats s → IsOutcome a s numeral
     → IsOutcome b s numeral → a ≡ b

@@ -1,4 +1,4 @@
--- What a line may have beside its numeral.
+-- What a line may have besides its numeral.
 use Rattle.std.specs.Prelude.{◌≡◌, ◌==◌, ◌&&◌, ◌||◌, ◌-◌, ℕ, List, [], Bool, true, false, not, drop, if◌then◌else◌}
 use Rattle.std.specs.Prelude.{length, nat_lt, take}
 use Rattle.std.specs.Char.{is_ascii_whitespace}
@@ -10,20 +10,20 @@ use Rattle.fixed_respell.specs.declared.fault.LineFault.TheVariants.{LineTooLong
 use Rattle.line_engine.specs.AnswerText.{AnswerText}
 use Rattle.fixed_command.specs.Convert.{without_return}
 
--- the bytes after the blanks at the beginning: ASCII's white space
+-- the bytes after the leading blanks: ASCII white space
 abbrev pub after_blanks : List ℕ → List ℕ
 after_blanks bytes = drop (prefix_len is_ascii_whitespace bytes) bytes
 
--- without those at the end as well
+-- the bytes without leading and trailing blanks
 abbrev pub trimmed : List ℕ → List ℕ
 trimmed bytes = take (length (after_blanks bytes) - suffix_len is_ascii_whitespace (after_blanks bytes))
     (after_blanks bytes)
 
--- the bytes begin with this prefix, which is not empty
+-- whether the bytes begin with this prefix, which must not be empty
 abbrev pub has_prefix : List ℕ → List ℕ → Bool
 has_prefix prefix bytes = not (length prefix == 0) && starts_with (λ a b. a == b) bytes prefix
 
--- what a line may have: blanks around its numeral; none but blanks; or, after blanks, the prefix of a comment
+-- what a line may have: blanks around its numeral; only blanks; or, after blanks, a comment with this prefix
 pub record LineLayout : Type 0 where
   pub is_trimmed : Bool
   pub skips_blank : Bool
@@ -33,20 +33,35 @@ pub record LineLayout : Type 0 where
 abbrev pub numeral_of : LineLayout → List ℕ → List ℕ
 numeral_of l line = if l.is_trimmed then trimmed (without_return line) else without_return line
 
--- how many bytes are blanks before it
+-- the line without blanks around it, if it may have them
+abbrev pub without_blanks : LineLayout → List ℕ → List ℕ
+without_blanks l line = if l.is_trimmed then trimmed line else line
+
+-- how many blanks precede the numeral
 abbrev pub blanks_before : LineLayout → List ℕ → ℕ
 blanks_before l line = if l.is_trimmed then length line - length (after_blanks line) else 0
 
--- the line is blank, or a comment
+-- whether the line is blank or a comment
 abbrev pub is_skipped : LineLayout → List ℕ → Bool
 is_skipped l line = (l.skips_blank && (length (trimmed line) == 0)) || has_prefix l.comments (after_blanks line)
 
--- the reply to a line that is too long or not, and skipped or not
+-- the reply to a line, by whether it is too long and whether it is skipped
 abbrev pub IsReplyTo : Bool → Bool → LineLayout → (List ℕ → AnswerText → Type 0) → List ℕ → AnswerText → Type 0
 IsReplyTo true skipped l A line reply = reply ≡ fault_answer (fault_message LineTooLong)
 IsReplyTo false true l A line reply = reply ≡ record { text = []; fault = false }
 IsReplyTo false false l A line reply = A (numeral_of l line) reply
 
--- the reply to a line: an empty one where it is skipped, and else that to its numeral, by this meaning of it
+-- the reply to a line: a fault if it is too long, empty if it is skipped, else that to its numeral by the meaning `A`
 abbrev pub IsLaidOut : LineLayout → (List ℕ → AnswerText → Type 0) → List ℕ → AnswerText → Type 0
 IsLaidOut l A line reply = IsReplyTo (nat_lt longest_line (length line)) (is_skipped l line) l A line reply
+
+-- the answer to a line, by whether it is too long and whether it is skipped
+abbrev pub IsAnswerLaidBy : Bool → Bool → LineLayout → (List ℕ → AnswerText → Type 0) → List ℕ → AnswerText → Type 0
+IsAnswerLaidBy true skipped l A line answer = A line answer
+IsAnswerLaidBy false true l A line answer = answer ≡ record { text = []; fault = false }
+IsAnswerLaidBy false false l A line answer = A (without_blanks l line) answer
+
+-- the answer to a line, by the meaning `A` of answers: that to the line if it is too long, empty if it is skipped, else
+-- that to the line without blanks
+abbrev pub AnswersLaidOut : LineLayout → (List ℕ → AnswerText → Type 0) → List ℕ → AnswerText → Type 0
+AnswersLaidOut l A line answer = IsAnswerLaidBy (nat_lt longest_line (length line)) (is_skipped l line) l A line answer

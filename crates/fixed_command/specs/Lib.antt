@@ -2,11 +2,15 @@ pub mod Amounts
 pub mod Asked
 pub mod Blocks
 pub mod Convert
+pub mod Errors
 pub mod Explained
 pub mod Fields
 pub mod Hex
+pub mod Hints
 pub mod Laws
+pub mod LaidList
 pub mod Layout
+pub mod LeastLines
 pub mod Lemmas
 pub mod Limits
 pub mod Moved
@@ -17,5 +21,8 @@ pub mod Printed
 pub mod Products
 pub mod Refused
 pub mod RunLaws
+pub mod Renamed
 pub mod Runs
+pub mod Swapped
+pub mod ShownNames
 pub mod Watched

@@ -1,19 +1,24 @@
--- How many bytes an input and an explanation have at most.
+-- The greatest lengths of an input and of an explanation, in bytes.
 use Rattle.std.specs.Prelude.{◌^◌, ℕ, None, Option, Some}
 
--- the greatest limit in bytes
+-- the greatest limit
 abbrev pub max_limit : ℕ
 max_limit = 4294967296
 
--- the limit of lines that have none
+-- the limit of an input that is read piece by piece, without one
 abbrev pub no_limit : ℕ
 no_limit = 2 ^ 62
 
--- the limit of lines that may have one
+-- the limit of an input that is read piece by piece
 abbrev pub limit_of : Option ℕ → ℕ
 limit_of None = no_limit
 limit_of (Some limit) = limit
 
--- how long an explanation is at most, and how much of a field's numeral is looked at for it
+-- the limit of an input that is read whole
+abbrev pub whole_limit_of : Option ℕ → ℕ
+whole_limit_of None = max_limit
+whole_limit_of (Some limit) = limit
+
+-- the longest explanation, and the longest prefix of a field's numeral that is examined for it
 abbrev pub longest_explanation : ℕ
 longest_explanation = 640

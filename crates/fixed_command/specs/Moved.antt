@@ -1,4 +1,4 @@
--- What is written of a number that is moved to the target.
+-- The output for a number moved to the target.
 use Rattle.std.specs.Prelude.{◌≡◌, ◌≤◌, ◌+◌, ◌||◌, ℕ, ℤ, List, ◌++◌, Bool, true, false, length}
 use Rattle.fixed_bits.specs.Ranges.{IsWide}
 use Rattle.fixed_convert.specs.Rounded.{IsNotReformatted, IsReformatted}
@@ -10,8 +10,8 @@ use Rattle.fixed_write.specs.Texts.{IsShortestText}
 use Rattle.fixed_command.specs.Printed.{printed}
 use Rattle.fixed_command.specs.declared.convert.Settings.{Settings}
 
--- the part that is asked for was appended: the number has an image in the target, and whether it, or what was read, was
--- out of its range
+-- the number has an image in the target, and the requested part was appended, with whether the number, or what was
+-- read, was out of its range
 pub record HasPushedImage (s : Settings) (number : ℤ) (out : Bool) (before after : List ℕ) : Type 0 where
   pub bits : ℤ
   pub target_out : Bool
@@ -23,7 +23,7 @@ pub record HasPushedImage (s : Settings) (number : ℤ) (out : Bool) (before aft
       text bits
   pub short : length after ≤ length before + 130
 
--- that, or the fault of a number that has none
+-- that, or the fault of a number without an image
 abbrev pub HasPushed : Settings → ℤ → Bool → List ℕ → List ℕ → Bool → Type 0
 HasPushed s number out before after true =
     IsNotReformatted s.target_mode s.policy s.target number s.source.frac

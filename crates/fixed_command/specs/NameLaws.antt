@@ -8,7 +8,7 @@ use Rattle.fixed_command.specs.Asked.{IsNamed, IsPrintNamed, spelling_text}
 use Rattle.fixed_command.specs.declared.print.Print.{Print}
 use Rattle.fixed_command.specs.declared.spelling.Spelling.{Spelling}
 
--- by these texts, and this where the option is left out
+-- by these texts a value names at most one element, also if the option is left out
 abbrev pub NamedIsTheOne : (A : Type 0) → (A → List ℕ) → Type 0
 NamedIsTheOne A text = (plain : A) (value : Option (List ℕ)) (a b : A) → IsNamed A text plain value a
     → IsNamed A text plain value b → a ≡ b
@@ -16,7 +16,7 @@ NamedIsTheOne A text = (plain : A) (value : Option (List ℕ)) (a b : A) → IsN
 abbrev pub PrintNamedIsTheOne : Type 0
 PrintNamedIsTheOne = (value : Option (List ℕ)) (a b : Print) → IsPrintNamed value a → IsPrintNamed value b → a ≡ b
 
--- each option's
+-- the law for each option
 pub record NamesAreTheOnes : Type 0 where
   pub radix : NamedIsTheOne Radix radix_text
   pub policy : NamedIsTheOne Policy policy_text

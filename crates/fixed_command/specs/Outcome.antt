@@ -1,4 +1,4 @@
--- How a numeral comes through its conversion.
+-- Outcomes of conversions (exact, rounded, overflowed, refused) and their counts.
 use Rattle.std.specs.Prelude.{◌≡◌, ◌⊎◌, ◌↔◌, ◌==◌, ◌||◌, ◌*◌, ◌^◌, ◌-◌, ℕ, ℤ, List, Bool, true, false, IsTrue}
 use Rattle.std.specs.Prelude.{if◌then◌else◌}
 use Rattle.std.specs.Prelude.{◌+◌, ◌++◌, [], ◌∷◌, codes, min, suc, unsigned_abs}
@@ -21,17 +21,17 @@ abbrev pub IsWholeSource : Spelling → Settings → List ℕ → Type 0
 IsWholeSource Numeral s numeral = (p : Parts) × HasNumeral s.radix numeral p × IsWholeUlps s.radix p s.source.frac
 IsWholeSource Word s word = Unit {0}
 
--- and the number of the source, b / 2^f, is a whole number of ulps of 2^-g: nothing is rounded
+-- the number b / 2^f of the source is a whole number of ulps of 2^-g: nothing is rounded
 abbrev pub IsWholeMoved : ℤ → ℕ → ℕ → Type 0
 IsWholeMoved b f g = IsMultipleOf (2 ^ f) (unsigned_abs b * 2 ^ g)
 
--- which outcome it is, by whether one of the two numbers was out of its format, and whether nothing was rounded
+-- the outcome, by whether one of the two numbers was out of its format and whether nothing was rounded
 abbrev pub outcome_by : Bool → Bool → Outcome
 outcome_by true exact = Overflowed
 outcome_by false true = Exact
 outcome_by false false = Rounded
 
--- it is converted
+-- the numeral is converted, with this outcome
 pub record IsConverted (outcome : Outcome) (s : Settings) (numeral : List ℕ) : Type 0 where
   pub number : ℤ
   pub out : Bool
@@ -50,15 +50,15 @@ pub record HasNoImage (s : Settings) (numeral : List ℕ) : Type 0 where
   pub source : IsSource s.spelling s numeral number out
   pub none : IsNotReformatted s.target_mode s.policy s.target number s.source.frac
 
--- it says no number of the source, or one that has no image
+-- the line gives no number of the source, or one without an image
 abbrev pub HasNoNumber : Settings → List ℕ → Type 0
 HasNoNumber s numeral = ((message : List ℕ) × IsNoSource s.spelling s numeral message) ⊎ HasNoImage s numeral
 
--- how a numeral comes through
+-- the outcome of a numeral
 abbrev pub IsOutcome : Outcome → Settings → List ℕ → Type 0
 IsOutcome outcome s numeral = IsConverted outcome s numeral ⊎ (HasNoNumber s numeral × (outcome ≡ Refused))
 
--- a numeral that is in range after it was read and after it was moved has an error; a word has none
+-- whether a conversion has an error: a numeral does if it is in range after reading and after moving; a word does not
 abbrev pub has_error : Spelling → Outcome → Bool
 has_error Numeral Exact = true
 has_error Numeral Rounded = true
@@ -66,16 +66,16 @@ has_error Numeral Overflowed = false
 has_error Numeral Refused = false
 has_error Word outcome = false
 
--- ---- how often
--- one more; the greatest count is not passed
+-- ---- counts
+-- one more, up to the greatest count
 abbrev pub one_more : ℕ → ℕ
 one_more count = if count == 2 ^ 64 - 1 then count else suc count
 
--- the place of the first: 0 where there is none
+-- the first of two places; 0 means none
 abbrev pub first_of : ℕ → ℕ → ℕ
 first_of first place = if first == 0 then place else first
 
--- the tally with one outcome more, in the line or record of this number
+-- the tally after one more outcome, in the line or record of this number
 abbrev pub noted : Tally → ℕ → Outcome → Tally
 noted t place Exact = record {
   exact = one_more t.exact;
@@ -110,21 +110,21 @@ noted t place Refused = record {
   first_refused = first_of t.first_refused place;
 }
 
--- how many numerals there were
+-- how many numerals there were, up to the greatest count
 abbrev pub total : Tally → ℕ
 total t = min (t.exact + t.rounded + t.overflowed + t.refused) (2 ^ 64 - 1)
 
--- the name of a place
+-- the word for a place
 abbrev pub place_text : Place → List ℕ
 place_text Line = codes "line"
 place_text Record = codes "record"
 
--- where the first is
+-- the text about the first place, if any
 abbrev pub first_text : Place → ℕ → List ℕ
 first_text place first = if first == 0 then []
     else codes " (the first in " ++ (place_text place ++ 32 ∷ (decimal first ++ codes ")"))
 
--- what a tally says
+-- the text of a tally
 abbrev pub tally_text : Place → Tally → List ℕ
 tally_text place t = codes "numerals: " ++ (decimal (total t)
     ++ (codes ", exact: " ++ (decimal t.exact

@@ -1,4 +1,4 @@
--- What is written of an answer.
+-- The printed part of an answer.
 use Rattle.std.specs.Prelude.{ℕ, ℤ, List, false}
 use Rattle.std.specs.Fmt.{signed_decimal}
 use Rattle.fixed_bits.specs.Formats.{FormatParts}
@@ -7,7 +7,7 @@ use Rattle.fixed_command.specs.Hex.{hex_digits, hex_text}
 use Rattle.fixed_command.specs.declared.print.Print.{Print}
 use Rattle.fixed_command.specs.declared.print.Print.TheVariants.{All, Bits, Hex, Places, Readmemh, Text, Value}
 
--- the part of an answer with this text as its first word and these bits as its second
+-- the part of an answer whose first word is this text and whose second word is these bits
 abbrev pub printed : Print → FormatParts → List ℕ → List ℕ → ℤ → List ℕ
 printed Text f answer text bits = text
 printed (Places count mode) f answer text bits = rounded_text mode 10 false count bits f.frac

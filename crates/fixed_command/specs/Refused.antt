@@ -1,4 +1,4 @@
--- The first of some words that is refused.
+-- The first refused word in a list.
 use Rattle.std.specs.Prelude.{◌≡◌, ℕ, List, ◌∷◌, ◌++◌, All, true, false, length}
 use Rattle.fixed_command.specs.Blocks.{IsBlock}
 use Rattle.fixed_command.specs.declared.blocks.Question.{Question}

@@ -17,18 +17,18 @@ use Rattle.fixed_command.specs.declared.convert.Settings.{Settings}
 abbrev pub ReplyIsTheOne : Type 0
 ReplyIsTheOne = (s : Settings) (numeral : List ℕ) (a b : AnswerText) → IsReply s numeral a → IsReply s numeral b → a ≡ b
 
--- and so has a line
+-- a line has at most one reply
 abbrev pub LineReplyIsTheOne : Type 0
 LineReplyIsTheOne = (s : Settings) (line : List ℕ) (a b : AnswerText) → IsLineReply s line a → IsLineReply s line b
     → a ≡ b
 
 -- ---- words
--- of some words at most one is the first that is refused, with one block
+-- a list of words has at most one first refused word, with one block
 abbrev pub FirstRefusedIsTheOne : Type 0
 FirstRefusedIsTheOne = (q : Question) (words : List (List ℕ)) (i j : ℕ) (a b : List ℕ) → IsFirstRefused q words i a
     → IsFirstRefused q words j b → (i ≡ j) × (a ≡ b)
 
--- while the count of failures can rise, it says with the words how a run over words ended
+-- the words and the count of failures determine how a run over words ended, if the count can rise
 abbrev pub BlocksEndIsTheOne : Type 0
 BlocksEndIsTheOne = (form : Form) (q : Question) (words : List (List ℕ)) (before a b : List ℕ)
     (failures failures' : ℕ) (s t : Status) → failures < 2 ^ 64 - 1
@@ -36,7 +36,7 @@ BlocksEndIsTheOne = (form : Form) (q : Question) (words : List (List ℕ)) (befo
     → BlocksRun form q words (Some before) (Some b) failures failures' t → s ≡ t
 
 -- ---- inputs
--- two undisturbed runs over the lines of one input within the limit, which found memory, wrote the same and ended alike
+-- two undisturbed runs over the lines of one input within the limit write the same and end alike if memory sufficed
 abbrev pub LineRunIsTheOne : (List ℕ → AnswerText → Type 0) → Type 0
 LineRunIsTheOne A = (limit per_byte extra : ℕ) (before after other : Outside) (input text a b : List ℕ) (s t : Status)
     → before.left ≡ Some input → length input ≤ limit → before.written ≡ Some text → after.written ≡ Some a
@@ -44,7 +44,7 @@ LineRunIsTheOne A = (limit per_byte extra : ℕ) (before after other : Outside) 
     → ¬ (t ≡ NoMemory) → HasLineRun A limit per_byte extra before after s
     → HasLineRun A limit per_byte extra before other t → (a ≡ b) × (s ≡ t)
 
--- and over a whole input
+-- the same for a whole input
 abbrev pub WholeRunIsTheOne : (List ℕ → AnswerText → Type 0) → Type 0
 WholeRunIsTheOne A = (limit : ℕ) (before after other : Outside) (input text a b : List ℕ) (s t : Status)
     → before.left ≡ Some input → length input ≤ limit → before.written ≡ Some text → after.written ≡ Some a

@@ -1,4 +1,4 @@
-//! Lines that say amounts, answered over any source and any sink.
+//! Lines with amounts, answered over any source and any sink.
 
 ghost use Rattle.std.specs.Prelude.{◌≡◌, [], codes};
 ghost use Rattle.fixed_amounts.specs.Explained.{ExplainsOverflow};
@@ -7,6 +7,7 @@ ghost use Rattle.fixed_command.specs.Explained.{looked_at};
 ghost use Rattle.fixed_numeral.specs.Numeral.{IsNumeral};
 ghost use Rattle.fixed_numeral.specs.declared.radix.Radix.{Radix};
 ghost use Rattle.fixed_command.specs.Amounts.{HasAmountsRun};
+ghost use Rattle.fixed_command.specs.Limits.{limit_of};
 ghost use Rattle.line_engine.specs.Program.{outside};
 ghost use Rattle.line_engine.specs.declared.status.Status.{Status};
 ghost use Rattle.run_engine.specs.LineStatus.{IsStatus};
@@ -15,12 +16,13 @@ use crate::convert::without_return;
 use crate::explain_field::numeral_of;
 use crate::field::{FieldForm, FieldReply};
 use crate::layout::Layout;
+use crate::task::{Limit, bytes_within};
 use fixed_amounts::{
     AmountFault, AmountRefusal, AmountSettings, MAX_OVERFLOW, overflow_explanation, push_reply,
 };
 use fixed_respell::{Refusal, push_fault};
 use fixed_steps::Steps;
-use line_engine::{MAX_ANSWER, MAX_LINE, NO_LIMIT, Output, Sink, Source, Status};
+use line_engine::{MAX_ANSWER, MAX_LINE, Output, Sink, Source, Status};
 use run_engine::{Cut, Devices, End, Gathered, LineRule, Lines, Refusals, Rule, run};
 use std::alloc::Global;
 use std::convert::Infallible;
@@ -28,17 +30,17 @@ use std::mem;
 use std::sync::ledger::Ledger;
 use text_buffer::TextBuffer;
 
-/// The rule that answers a line with the amount that it says, and a line that is skipped with an empty one.
+/// The rule that answers a line with its amount, and a skipped line with an empty one.
 #[derive(Drop)]
 pub struct AmountLines {
-    /// How an amount is read, and what of it is written.
+    /// How an amount is read, and what is written of it.
     pub settings: AmountSettings,
-    /// What a line has beside it.
+    /// What a line has besides it.
     pub layout: Layout,
 }
 
 impl AmountLines {
-    /// The same rule once more.
+    /// Returns the same rule.
     fn same(&self) -> AmountLines
         ensures settings { result.settings ≡ self.now.settings }
         ensures layout { result.layout ≡ self.now.layout }
@@ -118,8 +120,8 @@ impl<L: Ledger> FieldReply<L> for AmountSettings {
     ghost one_law = { λ settings line. amount_reply_one settings (without_return line) };
 }
 
-/// What more there is to say of a field that is refused for this cause: of an overflow the number that was reached and
-/// what the format holds; nothing of another cause. Of its numeral 640 bytes are looked at.
+/// Explains a field that is refused for this cause: for an overflow, gives the number that was reached and the range of
+/// the format. Empty for other causes. It reads up to 640 bytes of the field's numeral.
 pub fn amount_field_explanation<L: Ledger>(
     settings: &AmountSettings,
     form: &FieldForm<'_>,
@@ -145,7 +147,7 @@ pub fn amount_field_explanation<L: Ledger>(
     )
 }
 
-/// How a run over lines that say amounts ended.
+/// How a run over lines with amounts ended.
 #[derive(Drop)]
 pub struct AmountsEnd {
     /// Its status: `Faults` if a line was refused.
@@ -154,7 +156,7 @@ pub struct AmountsEnd {
     pub refusals: Refusals<AmountRefusal>,
 }
 
-/// The status of a run that ended so.
+/// Returns the status of a run that ended so.
 pub fn status_of(end: End<Infallible>) -> Status
     ensures { IsStatus end result }
 {
@@ -169,17 +171,18 @@ pub fn status_of(end: End<Infallible>) -> Status
     }
 }
 
-/// Answers each line of an input with the amount that it says. It takes memory for one line buffer before the first
-/// read, and `NoMemory` says that there was none.
+/// Answers each line of an input within the limit with its amount. It allocates one line buffer before the first read.
+/// `NoMemory`: there was no memory for it.
 pub fn run_amounts<S: Source, K: Sink, L: Ledger>(
     alloc: Global,
+    limit: &Option<Limit>,
     lines: &AmountLines,
     source: &mut S,
     sink: &mut K,
     steps: &mut Steps<L>,
 ) -> AmountsEnd
-    // What was taken, made and written, by status; which count of failures rose; and which refused lines are kept.
-    ensures run { ¬ (result.status ≡ Status.NoMemory) → HasAmountsRun lines.now
+    // What was read, made and written, by status; which count of failures rose; and which refused lines are kept.
+    ensures run { ¬ (result.status ≡ Status.NoMemory) → HasAmountsRun (limit_of limit.now) lines.now
         (outside (S.left source.old) (S.asked source.old) (S.failures source.old) (K.written sink.old)
         (K.failures sink.old) steps.old)
         (outside (S.left source.new) (S.asked source.new) (S.failures source.new) (K.written sink.new)
@@ -198,7 +201,7 @@ pub fn run_amounts<S: Source, K: Sink, L: Ledger>(
         Ok(lines) => {
             let mut machine = Cut(lines);
             let mut out = Gathered::new(Devices { source, sink });
-            let end = run(&mut machine, NO_LIMIT, &mut out, steps);
+            let end = run(&mut machine, bytes_within(limit), &mut out, steps);
             let refusals = mem::replace(&mut machine.0.watch, Refusals::new());
             AmountsEnd {
                 status: status_of(end),

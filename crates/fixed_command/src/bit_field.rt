@@ -7,7 +7,7 @@ use fixed_bits::Format;
 use fixed_write::push_integer;
 use text_buffer::TextBuffer;
 
-/// The word of the field of `width` bits from bit `low` on.
+/// Returns the word of the field of `width` bits from bit `low` on.
 fn field_word(width: u32, low: u32) -> TextBuffer<64>
     requires some { 0 < width }
     requires within { low + width ≤ 64 }
@@ -20,7 +20,7 @@ fn field_word(width: u32, low: u32) -> TextBuffer<64>
     text
 }
 
-/// Whether a word is that of the field of `width` bits from bit `low` on.
+/// Whether a word names the field of `width` bits from bit `low` on.
 fn is_field(word: &str, width: u32, low: u32) -> bool
     requires some { 0 < width }
     requires within { low + width ≤ 64 }
@@ -29,8 +29,8 @@ fn is_field(word: &str, width: u32, low: u32) -> bool
     word.as_bytes() == field_word(width, low).as_bytes()
 }
 
-/// The lowest bit of the field that a word `HI:LO` names: the bits of a word of 64 from `LO` up to `HI`, as many as
-/// the format has. `None` where it names none such.
+/// Returns the lowest bit of the field that a word `HI:LO` names: the bits of a word of 64 from `LO` up to `HI`, as
+/// many as the format has. `None` if it does not name such a field.
 pub fn field_named(word: &str, format: Format) -> Option<u32>
     ensures { MatchOption result ((low : ℕ) → low + format.width ≤ 64 → ¬ (word.now ≡ field_text format.width low))
         (λ low. (low + format.width ≤ 64) × (word.now ≡ field_text format.width low)) }

@@ -1,10 +1,11 @@
-//! Questions about words, each answered with a block of lines or with an object of JSON.
+//! Questions about words, each answered with a block of lines or a JSON object.
 //!
-//! A block begins with the first 1,024 bytes of its word, also if the word is refused, so that it is found by its word.
+//! A block begins with the first 1,024 bytes of its word, even if the word is refused, so that it is found by its word.
 
 ghost use Rattle.std.specs.Prelude.{◌≡◌, ◌≤◌, ◌<◌, ◌+◌, ◌*◌, ◌++◌, ◌||◌, List, ℕ, length, map, take, IfOk, OnErr};
 ghost use Rattle.std.specs.Io.KnownBytes.{Appends};
-ghost use Rattle.fixed_command.specs.Blocks.{BlocksRun, IsAnswered, IsBlock, IsFormatAnswer, IsHeaded, IsObject};
+ghost use Rattle.fixed_command.specs.Blocks.{BlocksRun, IsAnswered, IsBlock, IsDecimalAnswer, IsFormatAnswer, IsHeaded};
+ghost use Rattle.fixed_command.specs.Blocks.{IsObject};
 ghost use Rattle.fixed_command.specs.Blocks.{ending, head_line, lead};
 ghost use Rattle.fixed_show.specs.Blocks as show_blocks;
 ghost use Rattle.fixed_show.specs.declared.form.Form.TheVariants.{Lines, Members};
@@ -12,9 +13,13 @@ ghost use Rattle.line_engine.specs.AnswerText.{AnswerText};
 ghost use Rattle.line_engine.specs.Failures.{FailsOnlyCounted};
 ghost use Rattle.line_engine.specs.Output.{AppendsPrefix};
 
+use fixed_amounts::{
+    AmountQuestion, amount_block, amount_object, decimal_format_block, decimal_format_named,
+    decimal_format_object,
+};
 use fixed_bits::{Policy, ReadMode};
+use fixed_names::format_of_name;
 use fixed_numeral::Radix;
-use fixed_respell::format_named;
 use fixed_show::{
     Form, MAX_BLOCK, MAX_OBJECT, Part, bits_block, bits_object, format_block, format_object,
     part_block, part_object, push_refused_object, show_block, show_object,
@@ -24,42 +29,63 @@ use line_engine::{Failed, Sink, Status, write_whole};
 use std::sync::ledger::Ledger;
 use text_buffer::TextBuffer;
 
-/// What is asked of a word.
+/// A question about a word.
 #[derive(Clone, Copy, Debug, PartialEq, Eq)]
 pub enum Question {
-    /// All there is to know of a numeral in a format.
+    /// All facts of a numeral in a format.
     Show {
         /// The radix of the numeral.
         radix: Radix,
         /// The format that it is read into.
         format: fixed_bits::Format,
-        /// What is done with a number that is out of range.
+        /// What to do with a number that is out of range.
         policy: Policy,
         /// How it is rounded.
         mode: ReadMode,
     },
-    /// What number a word of a register is in a format.
+    /// The number of a register word in a format.
     Bits {
         /// The radix of a word without a prefix.
         radix: Radix,
         /// The format.
         format: fixed_bits::Format,
     },
-    /// What number a part of a word of a register is in a format.
+    /// The number of a part of a register word in a format.
     Part {
         /// The radix of a word without a prefix.
         radix: Radix,
-        /// What is taken of the word.
+        /// Which part of the word.
         part: Part,
         /// The format.
         format: fixed_bits::Format,
     },
-    /// What the format that the word names can hold.
+    /// The amount of a numeral or a count of units.
+    Amount(AmountQuestion),
+    /// The range of the format that the word names.
     Format,
 }
 
-/// Appends the block of the format that a word names, or a fault where it names none, and answers whether it did so.
+/// Appends the block of the decimal format that a word names, or a fault if it names none. Returns true if it names
+/// none.
 #[tactic(auto, unfolding(fixed_show::specs::Blocks::line))]
+fn push_decimal_block<const N: usize>(word: &[u8], out: &mut TextBuffer<N>) -> bool
+    requires { length out.old + MAX_BLOCK ≤ N }
+    ensures block { show_blocks.Appends (λ text. IsDecimalAnswer Lines word.now
+        (record { text = text; fault = result })) MAX_BLOCK out.old out.new }
+{
+    match decimal_format_named(word) {
+        Some(format) => {
+            decimal_format_block(format, out);
+            false
+        }
+        None => {
+            out.push_bytes(b"error: bad format\n");
+            true
+        }
+    }
+}
+
+/// Appends the block of the format that a word names, or a fault if it names none. Returns true if it names none.
 fn push_format<const N: usize, L: Ledger>(
     word: &[u8],
     out: &mut TextBuffer<N>,
@@ -70,19 +96,16 @@ fn push_format<const N: usize, L: Ledger>(
         (record { text = text; fault = result })) MAX_BLOCK out.old out.new }
     ensures cost { steps.new ≤ steps.old + 96 }
 {
-    match format_named(word) {
+    match format_of_name(word) {
         Some(format) => {
             format_block(format, out, steps);
             false
         }
-        None => {
-            out.push_bytes(b"error: bad format\n");
-            true
-        }
+        None => push_decimal_block(word, out),
     }
 }
 
-/// Appends the block that answers a question about a word, and answers whether it reports a fault.
+/// Appends the block that answers a question about a word. Returns true if it reports a fault.
 pub(crate) fn push_block<const N: usize, L: Ledger>(
     question: &Question,
     word: &[u8],
@@ -107,11 +130,31 @@ pub(crate) fn push_block<const N: usize, L: Ledger>(
             part,
             format,
         } => part_block(word, *radix, *part, *format, out, steps),
+        Question::Amount(question) => amount_block(question, word, out, steps),
         Question::Format => push_format(word, out, steps),
     }
 }
 
-/// Appends the object of the format that a word names, or a fault where it names none, and answers whether it did so.
+/// Appends the object of the decimal format that a word names, or a fault if it names none. Returns true if it names
+/// none.
+fn push_decimal_object<const N: usize>(word: &[u8], out: &mut TextBuffer<N>) -> bool
+    requires { length out.old + MAX_OBJECT ≤ N }
+    ensures object { show_blocks.Appends (λ text. IsDecimalAnswer Members word.now
+        (record { text = text; fault = result })) MAX_OBJECT out.old out.new }
+{
+    match decimal_format_named(word) {
+        Some(format) => {
+            decimal_format_object(word, format, out);
+            false
+        }
+        None => {
+            push_refused_object(out, word, "bad format");
+            true
+        }
+    }
+}
+
+/// Appends the object of the format that a word names, or a fault if it names none. Returns true if it names none.
 fn push_format_object<const N: usize, L: Ledger>(
     word: &[u8],
     out: &mut TextBuffer<N>,
@@ -122,19 +165,16 @@ fn push_format_object<const N: usize, L: Ledger>(
         (record { text = text; fault = result })) MAX_OBJECT out.old out.new }
     ensures cost { steps.new ≤ steps.old + 96 }
 {
-    match format_named(word) {
+    match format_of_name(word) {
         Some(format) => {
             format_object(word, format, out, steps);
             false
         }
-        None => {
-            push_refused_object(out, word, "bad format");
-            true
-        }
+        None => push_decimal_object(word, out),
     }
 }
 
-/// Appends the object that answers a question about a word, and answers whether it reports a fault.
+/// Appends the object that answers a question about a word. Returns true if it reports a fault.
 fn push_object<const N: usize, L: Ledger>(
     question: &Question,
     word: &[u8],
@@ -159,6 +199,7 @@ fn push_object<const N: usize, L: Ledger>(
             part,
             format,
         } => part_object(word, *radix, *part, *format, out, steps),
+        Question::Amount(question) => amount_object(question, word, out, steps),
         Question::Format => push_format_object(word, out, steps),
     }
 }
@@ -166,10 +207,10 @@ fn push_object<const N: usize, L: Ledger>(
 /// How many bytes of a word are shown above its block.
 const MAX_SHOWN: usize = 1024;
 
-/// How many bytes a block has at most, with the line of its word.
+/// The length of the longest block with the line of its word, in bytes.
 const MAX_HEADED: usize = 4363;
 
-/// The first bytes, at most this many.
+/// Returns the first bytes, at most `most`.
 #[tactic(auto, using(std::proofs::lemmas::List::take_min))]
 pub(crate) fn first_bytes(bytes: &[u8], most: usize) -> &[u8]
     ensures value { result.now ≡ take most bytes.now }
@@ -178,7 +219,7 @@ pub(crate) fn first_bytes(bytes: &[u8], most: usize) -> &[u8]
     &bytes[..most.min(bytes.len())]
 }
 
-/// Appends the line of a word as it was given, of which the first bytes are shown.
+/// Appends a line with the first bytes of the given word.
 pub(crate) fn push_head<const N: usize>(out: &mut TextBuffer<N>, word: &[u8])
     requires { length out.old + 1035 ≤ N }
     ensures appended { out.new ≡ out.old ++ head_line word.now }
@@ -189,8 +230,7 @@ pub(crate) fn push_head<const N: usize>(out: &mut TextBuffer<N>, word: &[u8])
     out.push(b'\n');
 }
 
-/// Appends the block that answers a question about a word, after a line of the word, and answers whether it reports a
-/// fault.
+/// Appends a line of a word and the block that answers a question about it. Returns true if the block reports a fault.
 fn push_headed<const N: usize, L: Ledger>(
     question: &Question,
     word: &[u8],
@@ -206,7 +246,7 @@ fn push_headed<const N: usize, L: Ledger>(
     push_block(question, word, out, steps)
 }
 
-/// Appends the answer in a form to a question about a word, of at most `MAX_OBJECT` bytes. Answers whether it reports a
+/// Appends the answer to a question about a word in a form, at most `MAX_OBJECT` bytes. Returns true if it reports a
 /// fault.
 pub(crate) fn push_answer<const N: usize, L: Ledger>(
     form: Form,
@@ -226,7 +266,7 @@ pub(crate) fn push_answer<const N: usize, L: Ledger>(
     }
 }
 
-/// Appends what stands before an answer: the empty line between two blocks, where one was written before.
+/// Appends the separator before an answer: an empty line between two blocks, if one was already written.
 fn push_lead<const N: usize>(out: &mut TextBuffer<N>, form: Form, has_begun: bool)
     requires { length out.old < N }
     ensures appended { out.new ≡ out.old ++ lead form has_begun }
@@ -237,7 +277,7 @@ fn push_lead<const N: usize>(out: &mut TextBuffer<N>, form: Form, has_begun: boo
     }
 }
 
-/// Appends what stands behind an answer: the newline behind an object.
+/// Appends the end of an answer: the newline after an object.
 fn push_ending<const N: usize>(out: &mut TextBuffer<N>, form: Form)
     requires { length out.old < N }
     ensures appended { out.new ≡ out.old ++ ending form }
@@ -247,8 +287,7 @@ fn push_ending<const N: usize>(out: &mut TextBuffer<N>, form: Form)
     }
 }
 
-/// Writes the answer in a form to a question about a word, after what stands before it. Answers whether it reports a
-/// fault.
+/// Writes the answer to a question about a word in a form, after its separator. Returns true if it reports a fault.
 #[inline(never)]
 fn write_answer<K: Sink, L: Ledger>(
     form: Form,
@@ -274,15 +313,15 @@ fn write_answer<K: Sink, L: Ledger>(
     Ok(is_fault)
 }
 
-/// Whether one of two holds.
+/// Whether one of two conditions holds.
 fn is_either(one: bool, other: bool) -> bool
     ensures { result ≡ (one || other) }
 {
     one || other
 }
 
-/// Writes an answer in a form about each word, in order: blocks with an empty line between two, or objects, each on a
-/// line. It takes no memory and reads nothing.
+/// Writes an answer about each word in a form, in order: blocks with an empty line between two, or objects, each on a
+/// line. It does not allocate or read.
 pub fn run_blocks<K: Sink, L: Ledger>(
     form: Form,
     question: &Question,

@@ -1,4 +1,4 @@
-//! Columns of a CSV text converted, also into amounts; every other byte stays as it was.
+//! Converts columns of a CSV text, also into amounts; every other byte stays unchanged.
 
 ghost use Rattle.std.specs.Prelude.{◌≡◌, ◌⊎◌, List, ℕ};
 ghost use Rattle.column_engine.specs.Run.{HasFailures, counts_of, first_state};
@@ -28,19 +28,19 @@ use std::sync::ledger::Ledger;
 pub struct ColumnConversion<'a, R> {
     /// How the numeral of a field is converted.
     pub rule: R,
-    /// How a field spells it.
+    /// How a field spells the numeral.
     pub form: FieldForm<'a>,
     /// How many lines come before the records; they are passed through.
     pub skipped: u64,
-    /// Which fields of a record.
+    /// Which fields of a record are converted.
     pub columns: Vec<Column>,
     /// Where the answers go.
     pub destination: Destination,
     /// Whether the first record is a header, which is passed through.
     pub has_header: bool,
-    /// Whether a field that is refused stays as it was.
+    /// Whether a refused field stays unchanged.
     pub is_kept: bool,
-    /// The byte between fields: an ASCII character that is no quote and no end of a line.
+    /// The byte between fields: an ASCII character that is not a quote or a line end.
     pub delimiter: u8,
 }
 
@@ -64,7 +64,7 @@ fn has_amount_point(print: AmountPrint) -> bool
     }
 }
 
-/// What of a field is kept, by whether what is written has a point.
+/// Returns what is kept of a field, by whether the written part has a point.
 fn kept_of<R>(conversion: &ColumnConversion<'_, R>, has_point: bool) -> Keeping
     ensures { result ≡ kept_of conversion.now.is_kept conversion.now.form.mark has_point }
 {
@@ -107,9 +107,9 @@ fn convert_by<R, A: FieldRule<L>, S: Source, K: Sink, L: Ledger>(
     run_column(alloc, &task, source, sink, steps)
 }
 
-/// Converts columns of the records of a text, and says how they ended. A field is answered as `run_convert` answers the
-/// line that its numeral is, and every other byte of the text is written as it was. What there is to report of the
-/// fields that are refused is kept in the watch, and how they come through in the report where one is asked for.
+/// Converts columns of the records of a text, and returns how the run ended. A field is answered as `run_convert`
+/// answers a line with its numeral, and every other byte of the text is written unchanged. The watch keeps the reports
+/// of refused fields, and the report, if requested, keeps the outcomes.
 pub fn convert_column<S: Source, K: Sink, L: Ledger>(
     alloc: Global,
     conversion: &ColumnConversion<'_, ConvertRule>,
@@ -119,7 +119,7 @@ pub fn convert_column<S: Source, K: Sink, L: Ledger>(
     sink: &mut K,
     steps: &mut Steps<L>,
 ) -> ColumnEnd
-    // What was taken and what was written, by how the run ended.
+    // What was read and written, by how the run ended.
     ensures run { (result.stop ≡ Stop.NoMemory)
         ⊎ HasRunAfter conversion.now.skipped result.stop
         (IsFieldReply conversion.now.form conversion.now.rule.radix (IsLineReply conversion.now.rule))
@@ -133,7 +133,7 @@ pub fn convert_column<S: Source, K: Sink, L: Ledger>(
     ensures failures { HasFailures (S.failures source.old) (S.failures source.new) (K.failures sink.old)
         (K.failures sink.new) result.stop }
 
-    // Where there was no memory, nothing was read or written.
+    // If there was no memory, nothing was read or written.
     ensures memory { result.stop ≡ Stop.NoMemory → (source.new ≡ source.old) × (sink.new ≡ sink.old) }
 {
     let settings = conversion.rule.settings();
@@ -154,8 +154,8 @@ pub fn convert_column<S: Source, K: Sink, L: Ledger>(
     }
 }
 
-/// Converts columns of the records of a text into amounts, and says how they ended. A field is answered as a line is
-/// that its numeral is; every other byte of the text is written as it was.
+/// Converts columns of the records of a text into amounts, and returns how the run ended. A field is answered like a
+/// line with its numeral; every other byte of the text is written unchanged.
 pub fn convert_amounts<S: Source, K: Sink, L: Ledger>(
     alloc: Global,
     conversion: &ColumnConversion<'_, AmountSettings>,
@@ -164,7 +164,7 @@ pub fn convert_amounts<S: Source, K: Sink, L: Ledger>(
     sink: &mut K,
     steps: &mut Steps<L>,
 ) -> ColumnEnd
-    // What was taken and what was written, by how the run ended.
+    // What was read and written, by how the run ended.
     ensures run { (result.stop ≡ Stop.NoMemory)
         ⊎ HasRunAfter conversion.now.skipped result.stop
         (IsFieldReply conversion.now.form RadixOf.Dec (λ line. IsReply conversion.now.rule (without_return line)))
@@ -178,7 +178,7 @@ pub fn convert_amounts<S: Source, K: Sink, L: Ledger>(
     ensures failures { HasFailures (S.failures source.old) (S.failures source.new) (K.failures sink.old)
         (K.failures sink.new) result.stop }
 
-    // Where there was no memory, nothing was read or written.
+    // If there was no memory, nothing was read or written.
     ensures memory { result.stop ≡ Stop.NoMemory → (source.new ≡ source.old) × (sink.new ≡ sink.old) }
 {
     let keeps = kept_of(conversion, has_amount_point(conversion.rule.print));

@@ -6,9 +6,11 @@
 ghost use Rattle.std.specs.Prelude.{◌≡◌, ◌↔◌, ◌+◌, ◌*◌, ◌-◌, ◌≤◌, ◌<◌, ◌++◌, [], ◌||◌, IfErr, IfOk, IsTrue};
 ghost use Rattle.std.specs.Prelude.{MatchResult, false, length, true};
 ghost use Rattle.fixed_bits.specs.Formats.{IsFormat};
+ghost use Rattle.fixed_bits.specs.Numbers.{number_of_image};
 ghost use Rattle.fixed_bits.specs.Ranges.{IsInRange, IsWide};
 ghost use Rattle.line_engine.specs.Output.{AppendsAnswer};
 ghost use Rattle.fixed_command.specs.Moved.{HasPushed};
+ghost use Rattle.fixed_command.specs.Outcome.{IsWholeSource};
 ghost use Rattle.fixed_command.specs.declared.spelling.Spelling.{Spelling};
 ghost use Rattle.fixed_command.specs.Convert.{asks_a_line, IsNoSource, IsSource, IsLineReply, IsReply, asking_line};
 ghost use Rattle.fixed_command.specs.Convert.{without_return};
@@ -17,20 +19,20 @@ ghost use Rattle.fixed_numeral.specs.Messages.{message_of};
 ghost use Rattle.fixed_respell.specs.Answer.{respelled_answer};
 ghost use Rattle.fixed_respell.specs.Language.{fault_answer};
 ghost use Rattle.fixed_respell.specs.LineWords.{longest_line};
-ghost use Rattle.fixed_respell.specs.Reached.{number_of};
 ghost use Rattle.fixed_write.specs.Places.{exact_text, rounded_text};
+ghost use Rattle.fixed_write.specs.Texts.{shortest_text};
 
 use crate::hex::{push_digits, push_hex};
 use crate::print::Print;
 use crate::spelling::Spelling;
 use crate::words::{mode_name, policy_name, radix_name};
-use fixed_bits::{Format, Policy, ReadMode};
+use fixed_bits::{Format, Image, Policy, ReadMode, sign_and_magnitude};
 use fixed_convert::reformat_mode;
 use fixed_numeral::{ParseErrorKind, ParseFixedError, Radix};
-use fixed_respell::{Bits, LineFault, format_name, push_fault, push_verdict, respell_mode};
+use fixed_respell::{LineFault, format_name, push_fault, push_respelled, reached_image};
 use fixed_show::{Shown, read_shown, read_word};
 use fixed_steps::Steps;
-use fixed_write::{Base, push_decimal, push_exact, push_integer, shortest};
+use fixed_write::{Base, push_decimal, push_exact, push_signed_integer, push_signed_shortest};
 use line_engine::{LineRule, MAX_ANSWER, MAX_LINE, Output};
 use std::marker::Model;
 use std::sync::ledger::Ledger;
@@ -57,65 +59,44 @@ pub struct Settings {
     pub print: Print,
 }
 
-/// The number of some bits.
-fn number_of(bits: Bits) -> i128
-    ensures number { result ≡ number_of bits }
-    ensures wide { IsWide result }
-{
-    match bits {
-        Bits::Signed(number) => i128::from(number),
-        Bits::Unsigned(number) => i128::from(number),
-    }
-}
-
 /// Appends what reports the refusal of a numeral.
-fn push_refusal<const N: usize>(out: &mut TextBuffer<N>, error: ParseFixedError)
+pub(crate) fn push_refusal<const N: usize>(out: &mut TextBuffer<N>, error: ParseFixedError)
     requires { length out.old + 71 ≤ N }
     ensures { out.new ≡ out.old ++ (fault_answer (message_of error)).text }
 {
     push_fault(out, error.message());
 }
 
-/// Appends an answer whole: a text, bits in decimal, and whether a number was out of its format.
-fn push_answer<const N: usize>(out: &mut TextBuffer<N>, text: &[u8], bits: i128, overflowed: bool)
-    requires short { length text.now ≤ 48 }
-    requires wide { IsWide bits }
-    requires room { length out.old + 81 ≤ N }
-    ensures appended { out.new ≡ out.old ++ (respelled_answer text.now bits overflowed).text }
-    ensures short { length out.new ≤ length out.old + 81 }
-{
-    out.push_bytes(text);
-    out.push(b' ');
-    push_integer(out, bits);
-    push_verdict(out, overflowed);
-}
-
-/// Appends the part of an answer that is asked for.
-fn push_part<const N: usize>(
+/// Appends the part of an answer that is asked for: of an image in the target, and whether a number was out of its
+/// format. A text is made only if it is written, and where it is written.
+fn push_part<const N: usize, L: Ledger>(
     out: &mut TextBuffer<N>,
     settings: &Settings,
-    text: &[u8],
-    bits: i128,
-    overflowed: bool,
+    image: Image,
+    steps: &mut Steps<L>,
 )
-    requires short { length text.now ≤ 48 }
-    requires wide { IsWide bits }
-    requires range { IsInRange settings.now.target.signed settings.now.target.width bits }
+    requires wide { IsWide (number_of_image image) }
+    requires range { IsInRange settings.now.target.signed settings.now.target.width (number_of_image image) }
     requires room { length out.old + 130 ≤ N }
     ensures appended { out.new ≡ out.old ++ printed settings.now.print settings.now.target
-        (respelled_answer text.now bits overflowed).text text.now bits }
+        (respelled_answer (shortest_text (number_of_image image) settings.now.target.frac) (number_of_image image)
+        image.is_out_of_range).text (shortest_text (number_of_image image) settings.now.target.frac)
+        (number_of_image image) }
     ensures short { length out.new ≤ length out.old + 130 }
+    ensures cost { steps.new ≤ steps.old + 48 }
 {
+    let format = settings.target;
+    let (negative, magnitude) = (image.negative, image.magnitude);
     match settings.print {
-        Print::Text => out.push_bytes(text),
+        Print::Text => push_signed_shortest(out, negative, magnitude, frac_of(format), steps),
         Print::Places(places, mode) => {
-            push_places(out, settings.target, bits, places.count(), mode);
+            push_places(out, format, image.number(), places.count(), mode);
         }
-        Print::Bits => push_integer(out, bits),
-        Print::Hex => push_hex(out, settings.target, bits),
-        Print::Readmemh => push_digits(out, settings.target, bits),
-        Print::Value => push_value(out, settings.target, bits),
-        Print::All => push_answer(out, text, bits, overflowed),
+        Print::Bits => push_signed_integer(out, negative, magnitude),
+        Print::Hex => push_hex(out, format, image.number()),
+        Print::Readmemh => push_digits(out, format, image.number()),
+        Print::Value => push_value(out, format, image.number()),
+        Print::All => push_respelled(out, image, frac_of(format), steps),
     }
 }
 
@@ -150,6 +131,7 @@ fn push_value<const N: usize>(out: &mut TextBuffer<N>, format: Format, bits: i12
 pub(crate) fn frac_of(format: Format) -> u32
     ensures value { result ≡ format.frac }
     ensures most { result ≤ 64 }
+    ensures valid { IsFormat format.width format.frac }
 {
     format.frac()
 }
@@ -189,6 +171,37 @@ impl ConvertRule {
         let formats = source.as_bytes().len() + 1 + target.as_bytes().len() + 1;
         let head = radix_name(settings.radix).len() + 1 + formats + policy + 1;
         ConvertRule { settings, head }
+    }
+
+    /// The rule that reads a spelling into a format, and moves its number to no other.
+    pub fn reading(
+        spelling: Spelling,
+        radix: Radix,
+        format: Format,
+        policy: Policy,
+        mode: ReadMode,
+    ) -> ConvertRule
+        ensures { result ≡ record {
+          spelling = spelling;
+          radix = radix;
+          source = format;
+          target = format;
+          policy = policy;
+          mode = mode;
+          target_mode = ReadMode.Floor;
+          print = Print.Text;
+        } }
+    {
+        ConvertRule::new(Settings {
+            spelling,
+            radix,
+            source: format,
+            target: format,
+            policy,
+            mode,
+            target_mode: ReadMode::Floor,
+            print: Print::Text,
+        })
     }
 
     /// The settings.
@@ -240,12 +253,11 @@ impl ConvertRule {
         ensures cost { steps.new ≤ steps.old + 8 * length numeral.now + 624 }
     {
         let s = &self.settings;
-        match respell_mode(
+        match reached_image(
             numeral, s.radix, s.source, s.target, s.policy, s.mode, steps,
         ) {
-            Ok(found) => {
-                let bits = number_of(found.bits);
-                push_part(out, s, found.text.as_bytes(), bits, found.overflowed);
+            Ok(image) => {
+                push_part(out, s, image, steps);
                 false
             }
             Err(error) => {
@@ -313,6 +325,8 @@ pub(crate) fn source_number<L: Ledger>(
         f.overflowed)
         (λ m. IsNoSource settings.now.spelling settings.now numeral.now m.now) }
     ensures wide { IfOk result (λ f. IsWide f.bits) }
+    ensures exact { IfOk result (λ f. IsTrue f.is_exact
+        ↔ IsWholeSource settings.now.spelling settings.now numeral.now) }
     ensures short { IfErr result (λ m. length m.now ≤ 64) }
     ensures cost { steps.new ≤ steps.old + 8 * length numeral.now + 576 }
 {
@@ -331,6 +345,7 @@ fn read_numeral<L: Ledger>(
     ensures source { MatchResult result (λ f. IsSource Spelling.Numeral settings.now numeral.now f.bits f.overflowed)
         (λ m. IsNoSource Spelling.Numeral settings.now numeral.now m.now) }
     ensures wide { IfOk result (λ f. IsWide f.bits) }
+    ensures exact { IfOk result (λ f. IsTrue f.is_exact ↔ IsWholeSource Spelling.Numeral settings.now numeral.now) }
     ensures short { IfErr result (λ m. length m.now ≤ 64) }
     ensures cost { steps.new ≤ steps.old + 8 * length numeral.now + 576 }
 {
@@ -347,12 +362,14 @@ fn read_bits(settings: &Settings, word: &[u8]) -> Result<Shown, &'static str>
     ensures source { MatchResult result (λ f. IsSource Spelling.Word settings.now word.now f.bits f.overflowed)
         (λ m. IsNoSource Spelling.Word settings.now word.now m.now) }
     ensures wide { IfOk result (λ f. IsWide f.bits) }
+    ensures exact { IfOk result (λ f. IsTrue f.is_exact ↔ IsWholeSource Spelling.Word settings.now word.now) }
     ensures short { IfErr result (λ m. length m.now ≤ 64) }
 {
     match read_word(word, settings.radix, settings.source) {
         Ok(bits) => Ok(Shown {
             bits,
             overflowed: false,
+            is_exact: true,
         }),
         Err(fault) => Err(fault.message()),
     }
@@ -375,9 +392,13 @@ pub fn push_image<const N: usize, L: Ledger>(
     let from = frac_of(s.source);
     match reformat_mode(s.target, s.policy, s.target_mode, found.bits, from) {
         Some((bits, target_overflowed)) => {
-            let text = shortest(bits, frac_of(s.target), steps);
-            let overflowed = is_either(found.overflowed, target_overflowed);
-            push_part(out, s, text.as_bytes(), bits, overflowed);
+            let (negative, magnitude) = sign_and_magnitude(bits);
+            let image = Image {
+                negative,
+                magnitude,
+                is_out_of_range: is_either(found.overflowed, target_overflowed),
+            };
+            push_part(out, s, image, steps);
             false
         }
         None => {

@@ -1,57 +1,69 @@
-//! What more there is to say of a numeral that a conversion refuses: where it goes wrong, or what the formats hold.
+//! Explains why a conversion refuses a numeral: the byte where it goes wrong, or the range of the exceeded format.
 //!
-//! An overflow names the one format that was exceeded and the number that did not fit it: the numeral rounded into the
-//! source, or that number rounded into the target. A number of more than 64 bits is not written out.
+//! An overflow names the exceeded format and the number that did not fit: the numeral rounded to the source, or that
+//! number rounded to the target. A number of more than 64 bits is not written out.
 
-ghost use Rattle.std.specs.Prelude.{◌≡◌, ◌≤◌, ◌+◌, ◌++◌, [], ℕ, IfSome, List, codes, false, length, true};
+ghost use Rattle.std.specs.Prelude.{◌≡◌, ◌≤◌, ◌+◌, ◌++◌, [], ℕ, ℤ, IfSome, List, codes, false, length, true};
+ghost use Rattle.fixed_bits.specs.Numbers.{IsNumber};
 ghost use Rattle.fixed_bits.specs.Ranges.{IsWide, greatest, lowest};
-ghost use Rattle.fixed_command.specs.Explained.{ExplainsDigit, ExplainsOverflow, HasInvalidDigit, IsPlaceOrZero};
-ghost use Rattle.fixed_command.specs.Explained.{digit_message, holds_text, place_text};
+ghost use Rattle.fixed_command.specs.Convert.{AreFormats};
+ghost use Rattle.fixed_command.specs.Explained.{ExplainsByte, ExplainsOverflow, IsPlaceOrZero, IsRefusedWith};
+ghost use Rattle.fixed_command.specs.Explained.{IsFoundIfWide, IsMovedText, IsReachedText};
+ghost use Rattle.fixed_command.specs.Explained.{NamesAByte, NamesAnExponentByte, holds_text, place_text};
+ghost use Rattle.fixed_convert.specs.Rounded.{IsMovedIn};
+ghost use Rattle.fixed_numeral.specs.Numeral.{HasNumeral, Parts};
+ghost use Rattle.fixed_read.specs.Reading.{IsReadNumber};
 
 use crate::convert::{frac_of, source_number};
+use crate::hint::{Offers, hint_of};
 use crate::{ConvertRule, Settings};
-use fixed_bits::{Format, Policy};
+use fixed_bits::{Format, Number, Policy, signed_number};
 use fixed_convert::reformat_mode;
+use fixed_read::read_format;
 use fixed_respell::format_name;
-use fixed_show::read_shown;
 use fixed_steps::Steps;
 use fixed_write::{Base, push_exact};
 use itoa::Buffer;
 use std::sync::ledger::Ledger;
 use text_buffer::TextBuffer;
 
-/// How many bytes an explanation has at most.
+/// The longest explanation, in bytes.
 pub const MAX_EXPLANATION: usize = 640;
 
-/// Whether a text says no number of the source, for an invalid digit.
-fn is_invalid<L: Ledger>(text: &[u8], settings: &Settings, steps: &mut Steps<L>) -> bool
-    ensures invalid { result ≡ true → HasInvalidDigit settings.now text.now }
-    ensures not { result ≡ false → ¬ HasInvalidDigit settings.now text.now }
+/// Whether a text is refused as a number of the source for this cause.
+fn is_invalid<L: Ledger>(
+    text: &[u8],
+    cause: &[u8],
+    settings: &Settings,
+    steps: &mut Steps<L>,
+) -> bool
+    ensures invalid { result ≡ true → IsRefusedWith cause.now settings.now text.now }
+    ensures not { result ≡ false → ¬ IsRefusedWith cause.now settings.now text.now }
 {
     match source_number(settings, text, steps) {
         Ok(_) => false,
-        Err(message) => message.as_bytes() == b"invalid digit found in string".as_slice(),
+        Err(message) => message.as_bytes() == cause,
     }
 }
 
-/// The place, from 1, of the first byte with which a text says no number of the source, for an invalid digit. 0 where
-/// there is none.
+/// Returns the place, from 1, of the first byte that makes a text refused for this cause, or 0.
 pub(crate) fn refused_place<L: Ledger>(
     text: &[u8],
+    cause: &[u8],
     settings: &Settings,
     steps: &mut Steps<L>,
 ) -> usize
-    ensures { IsPlaceOrZero settings.now text.now result }
+    ensures { IsPlaceOrZero cause.now settings.now text.now result }
 {
     for end in 0..text.len() {
-        if is_invalid(&text[..end + 1], settings, steps) {
+        if is_invalid(&text[..end + 1], cause, settings, steps) {
             return end + 1;
         }
     }
     0
 }
 
-/// A format's ends, as numbers of its ulps.
+/// Returns the least and the greatest number of a format, in ulps.
 fn ends_of(format: Format) -> (i128, i128)
     ensures low { result.0 ≡ lowest format.signed format.width }
     ensures high { result.1 ≡ greatest format.signed format.width }
@@ -62,7 +74,7 @@ fn ends_of(format: Format) -> (i128, i128)
     (format.lowest(), format.greatest())
 }
 
-/// Appends what a format holds.
+/// Appends the range of a format.
 fn push_range(out: &mut TextBuffer<MAX_EXPLANATION>, format: Format)
     requires room { length out.old + 280 ≤ 640 }
     ensures appended { out.new ≡ out.old ++ holds_text format }
@@ -77,27 +89,42 @@ fn push_range(out: &mut TextBuffer<MAX_EXPLANATION>, format: Format)
     push_exact(out, greatest, frac_of(format), Base::Dec);
 }
 
-/// The number of ulps of 2^-`frac` that a numeral reads as, where it has at most 64 bits.
-fn read_wide<L: Ledger>(
-    settings: &Settings,
-    numeral: &[u8],
-    signed: bool,
-    steps: &mut Steps<L>,
-) -> Option<i128>
-    ensures { IfSome result IsWide }
+/// Returns a number if it has at most 64 bits.
+fn wide_number(number: Number) -> Option<i128>
+    ensures number { (v : ℤ) → IsNumber number v → IsFoundIfWide v result }
+    ensures wide { IfSome result IsWide }
+{
+    if number.has_high_bits {
+        return None;
+    }
+    let value = signed_number(number.negative, number.low);
+    if value < i128::from(i64::MIN) {
+        return None;
+    }
+    Some(value)
+}
+
+/// Returns the number of ulps of the source that a numeral is rounded to, if it has at most 64 bits.
+fn read_wide<L: Ledger>(settings: &Settings, numeral: &[u8], steps: &mut Steps<L>) -> Option<i128>
+    ensures number { (parts : Parts) (v : ℤ) → HasNumeral settings.now.radix numeral.now parts
+        → IsReadNumber settings.now.mode settings.now.radix parts settings.now.source.frac v
+        → IsFoundIfWide v result }
+    ensures wide { IfSome result IsWide }
 {
     let s = settings;
-    let wide = Format::of(signed, 64, frac_of(s.source));
-    match read_shown(numeral, s.radix, wide, Policy::Checked, s.mode, steps) {
-        Ok(found) => Some(found.bits),
+    match read_format(numeral, s.radix, s.source, s.mode, steps) {
+        Ok(found) => wide_number(found.number()),
         Err(_) => None,
     }
 }
 
-/// A number of the source in ulps of the target, where it has at most 64 bits.
+/// Returns the number of ulps of the target that a number of the source is rounded to, if it has at most 64 bits.
 fn moved_wide(settings: &Settings, number: i128) -> Option<i128>
     requires { IsWide number }
-    ensures { IfSome result IsWide }
+    ensures number { (v : ℤ)
+        → IsMovedIn settings.now.target_mode number settings.now.source.frac settings.now.target.frac v
+        → IsFoundIfWide v result }
+    ensures wide { IfSome result IsWide }
 {
     let s = settings;
     let wide = Format::of(number < 0, 64, frac_of(s.target));
@@ -113,12 +140,13 @@ fn moved_wide(settings: &Settings, number: i128) -> Option<i128>
     }
 }
 
-/// Appends a number of ulps of 2^-`frac` exactly, where it has at most 64 bits.
+/// Appends a number of ulps of 2^-`frac` exactly, if it has at most 64 bits.
 fn push_number(out: &mut TextBuffer<MAX_EXPLANATION>, number: Option<i128>, frac: u32)
     requires wide { IfSome number IsWide }
     requires frac { frac ≤ 64 }
     requires room { length out.old + 130 ≤ 640 }
-    ensures appended { (text : List ℕ) × (out.new ≡ out.old ++ text) }
+    ensures appended { (v : ℤ) → IsFoundIfWide v number
+        → (text : List ℕ) × IsReachedText v frac text × (out.new ≡ out.old ++ text) }
     ensures short { length out.new ≤ length out.old + 130 }
 {
     match number {
@@ -127,42 +155,27 @@ fn push_number(out: &mut TextBuffer<MAX_EXPLANATION>, number: Option<i128>, frac
     }
 }
 
-/// Appends the number of the source that a numeral reads as.
-fn push_read<L: Ledger>(
-    out: &mut TextBuffer<MAX_EXPLANATION>,
-    settings: &Settings,
-    numeral: &[u8],
-    steps: &mut Steps<L>,
-)
-    requires room { length out.old + 130 ≤ 640 }
-    ensures appended { (text : List ℕ) × (out.new ≡ out.old ++ text) }
-    ensures short { length out.new ≤ length out.old + 130 }
-{
-    let number = match read_wide(settings, numeral, true, steps) {
-        Some(number) => Some(number),
-        None => read_wide(settings, numeral, false, steps),
-    };
-    push_number(out, number, frac_of(settings.source));
-}
-
-/// Appends the number of the target that a number of the source is moved to. Where nothing is rounded on the way it is
-/// the number of the source.
+/// Appends the number of the target that a number of the source is rounded to, or that number if nothing is rounded.
 fn push_moved(out: &mut TextBuffer<MAX_EXPLANATION>, settings: &Settings, number: i128)
     requires wide { IsWide number }
     requires room { length out.old + 130 ≤ 640 }
-    ensures appended { (text : List ℕ) × (out.new ≡ out.old ++ text) }
+    ensures appended { (v : ℤ)
+        → IsMovedIn settings.now.target_mode number settings.now.source.frac settings.now.target.frac v
+        → (text : List ℕ) × IsMovedText number settings.now.source.frac v settings.now.target.frac text
+        × (out.new ≡ out.old ++ text) }
+    ensures formats { AreFormats settings.now }
     ensures short { length out.new ≤ length out.old + 130 }
 {
     let from = frac_of(settings.source);
     let to = frac_of(settings.target);
     if from <= to {
-        push_number(out, Some(number), from);
+        push_exact(out, number, from, Base::Dec);
     } else {
         push_number(out, moved_wide(settings, number), to);
     }
 }
 
-/// Appends the number that was reached, and what the format holds that it did not fit.
+/// Appends the number that was reached, and the range of the format that does not hold it.
 fn push_overflow<L: Ledger>(
     out: &mut TextBuffer<MAX_EXPLANATION>,
     settings: &Settings,
@@ -180,19 +193,21 @@ fn push_overflow<L: Ledger>(
             push_range(out, settings.target);
         }
         Err(_) => {
-            push_read(out, settings, numeral, steps);
+            let number = read_wide(settings, numeral, steps);
+            push_number(out, number, frac_of(settings.source));
             out.push_bytes(b", ");
             push_range(out, settings.source);
         }
     }
 }
 
-/// Appends the byte at a place of a text, from 1, and its place in a line with some bytes before the text.
+/// Appends the byte at a place of a text, from 1, and its place in the line. `before` counts the bytes before the text.
 fn push_place(out: &mut TextBuffer<MAX_EXPLANATION>, text: &[u8], place: usize, before: usize)
     requires empty { out.old ≡ [] }
     requires some { 1 ≤ place }
     requires within { place ≤ length text.now }
-    ensures { out.new ≡ place_text text.now place before }
+    ensures appended { out.new ≡ place_text text.now place before }
+    ensures short { length out.new ≤ 64 }
 {
     out.push_bytes(b", byte ");
     let mut digits = Buffer::new();
@@ -202,44 +217,79 @@ fn push_place(out: &mut TextBuffer<MAX_EXPLANATION>, text: &[u8], place: usize, 
     out.push(b'\'');
 }
 
-/// Appends which byte of a numeral or a word is the first that makes it none, where there is one.
-fn push_digit<L: Ledger>(
+/// Whether a cause is a refusal for one byte of an exponent.
+fn names_an_exponent_byte(cause: &[u8]) -> bool
+    ensures yes { result ≡ true → NamesAnExponentByte cause.now }
+    ensures no { result ≡ false → ¬ NamesAnExponentByte cause.now }
+{
+    if cause == b"more than one exponent found".as_slice() {
+        return true;
+    }
+    if cause == b"invalid digit found in exponent".as_slice() {
+        return true;
+    }
+    cause == b"exponent overflow".as_slice()
+}
+
+/// Whether a cause is a refusal for one byte.
+pub(crate) fn names_a_byte(cause: &[u8]) -> bool
+    ensures yes { result ≡ true → NamesAByte cause.now }
+    ensures no { result ≡ false → ¬ NamesAByte cause.now }
+{
+    if names_an_exponent_byte(cause) || cause == b"invalid digit found in string".as_slice() {
+        return true;
+    }
+    if cause == b"misplaced sign found in string".as_slice() {
+        return true;
+    }
+    if cause == b"misplaced underscore found in string".as_slice() {
+        return true;
+    }
+    cause == b"more than one point found in string".as_slice()
+}
+
+/// Appends the first byte for which a numeral or a word is refused with this cause, if any, with its place and a hint.
+fn push_byte<L: Ledger>(
     out: &mut TextBuffer<MAX_EXPLANATION>,
     text: &[u8],
+    cause: &[u8],
     before: usize,
     settings: &Settings,
+    offers: Offers,
     steps: &mut Steps<L>,
 )
     requires empty { out.old ≡ [] }
-    ensures { ExplainsDigit settings.now text.now before out.new }
+    ensures { ExplainsByte cause.now offers settings.now text.now before out.new }
 {
-    let place = refused_place(text, settings, steps);
+    let place = refused_place(text, cause, settings, steps);
     if place > 0 {
         push_place(out, text, place, before);
+        let hint = hint_of(offers, settings.spelling, settings.radix, text, place);
+        out.push_bytes(hint.as_bytes());
     }
 }
 
-/// What more there is to say of a numeral or a word that a rule refuses for this cause, and before which there are some
-/// bytes in its line: of an overflow the number that was reached and what the format holds; of an invalid digit the
-/// place from 1 in the line of the first byte that is in no numeral, or no word, there; nothing of another cause.
+/// Explains why a rule refuses a numeral or a word with this cause. An overflow: the number that was reached and the
+/// range of the format. A byte that no numeral, or no word, has there: the first such byte, its place in the line, from
+/// 1, if `before` bytes come before the text, and a hint about what the command offers. Nothing for another cause.
 pub fn explanation<L: Ledger>(
     rule: &ConvertRule,
+    offers: Offers,
     text: &[u8],
     before: usize,
     cause: &[u8],
     steps: &mut Steps<L>,
 ) -> TextBuffer<MAX_EXPLANATION>
     ensures overflow { cause.now ≡ codes "overflow" → ExplainsOverflow rule.now text.now result }
-    ensures digit { cause.now ≡ digit_message → ExplainsDigit rule.now text.now before result }
-    ensures other { ¬ (cause.now ≡ codes "overflow") → ¬ (cause.now ≡ digit_message)
-        → result ≡ [] }
+    ensures byte { NamesAByte cause.now → ExplainsByte cause.now offers rule.now text.now before result }
+    ensures other { ¬ (cause.now ≡ codes "overflow") → ¬ NamesAByte cause.now → result ≡ [] }
 {
     let mut out = TextBuffer::new();
     let settings = rule.settings();
     if cause == b"overflow".as_slice() {
         push_overflow(&mut out, settings, text, steps);
-    } else if cause == b"invalid digit found in string".as_slice() {
-        push_digit(&mut out, text, before, settings, steps);
+    } else if names_a_byte(cause) {
+        push_byte(&mut out, text, cause, before, settings, offers, steps);
     }
     out
 }

@@ -1,11 +1,10 @@
-//! Fields as people spell them: with blanks around a numeral, a decimal comma, separators of thousands, or without a
-//! byte.
+//! Fields as people spell them: with blanks around a numeral, a decimal comma or thousands separators, or empty.
 //!
-//! The decimal mark and the point change places, so that a point in a text with decimal commas is refused and not read
-//! as one. Separators of thousands must stand between groups of three digits: with points for thousands, `12.34` is
-//! more likely a fraction than 1,234. A separator may have several bytes, as a narrow no-break space has. A reply keeps
-//! the field's mark, unless another is requested, and its quotes: the readers of the file expect both. It has no
-//! separators, since few readers take them.
+//! The decimal mark and the point are swapped, so that a point in a text with decimal commas is refused and not read as
+//! one. Thousands separators must stand between groups of three digits: with points for thousands, `12.34` is more
+//! likely a fraction than 1,234. A separator may have several bytes, such as a narrow no-break space. A reply keeps the
+//! field's mark, unless another is requested, and its quotes: the readers of the file expect both. It has no
+//! separators, because few readers take them.
 
 ghost use Rattle.std.specs.Prelude.{◌≡◌, ◌≤◌, ◌<◌, ◌+◌, ◌++◌, [], List, ℕ, IsTrue, drop, length, flat_map, map};
 ghost use Rattle.column_engine.specs.Limits.{longest_record};
@@ -22,7 +21,7 @@ use fixed_steps::Steps;
 use line_engine::{LineRule, Output};
 use std::sync::ledger::Ledger;
 
-/// What becomes of a field without a byte.
+/// What to do with an empty field.
 #[derive(Clone, Copy, Debug, PartialEq, Eq)]
 pub enum Empty {
     /// It stays.
@@ -36,21 +35,21 @@ pub enum Empty {
 /// How a field spells a numeral or a word.
 #[derive(Drop)]
 pub struct FieldForm<'a> {
-    /// Whether the blanks around it, ASCII's white space, are no part of it.
+    /// Whether blanks around it (ASCII white space) are ignored.
     pub is_trimmed: bool,
-    /// The byte before a fraction, which changes places with the point.
+    /// The byte before a fraction, which is swapped with the point.
     pub decimal: u8,
-    /// The bytes that separate thousands: they are taken out.
+    /// The bytes that separate thousands, which are removed.
     pub thousands: &'a [u8],
     /// Whether those stand only between groups of three whole digits, as one character. Elsewhere they are refused.
     pub has_groups: bool,
     /// The byte before the fraction of an answer.
     pub mark: u8,
-    /// What becomes of a field without a byte.
+    /// What to do with an empty field.
     pub empty: Empty,
 }
 
-/// A field without the blanks around it, where they are no part of it.
+/// Returns a field without the blanks around it, if they are ignored.
 pub(crate) fn bare<'f>(form: &FieldForm<'_>, field: &'f [u8]) -> &'f [u8]
     ensures value { result.now ≡ bare form.now field.now }
     ensures short { length result.now ≤ length field.now }
@@ -62,7 +61,7 @@ pub(crate) fn bare<'f>(form: &FieldForm<'_>, field: &'f [u8]) -> &'f [u8]
     }
 }
 
-/// A byte as it is read where this one comes before a fraction.
+/// Returns a byte as it is read if `decimal` comes before a fraction.
 pub(crate) fn swapped(decimal: u8, byte: u8) -> u8
     ensures { result ≡ swapped decimal byte }
 {
@@ -75,7 +74,7 @@ pub(crate) fn swapped(decimal: u8, byte: u8) -> u8
     }
 }
 
-/// Goes on with what is read for a byte.
+/// Appends the byte, if any, that is read for a byte.
 fn push_read(form: &FieldForm<'_>, byte: u8, numeral: &mut RecordBuffer)
     requires { length numeral.old < longest_record }
     ensures text { numeral.new ≡ numeral.old ++ read_for form.now.thousands.now form.now.decimal byte }
@@ -86,7 +85,7 @@ fn push_read(form: &FieldForm<'_>, byte: u8, numeral: &mut RecordBuffer)
     }
 }
 
-/// Writes out what is read for bytes.
+/// Writes the bytes that are read for a field's bytes.
 pub(crate) fn write_read(form: &FieldForm<'_>, bytes: &[u8], numeral: &mut RecordBuffer)
     requires { length bytes.now ≤ longest_record }
     ensures { numeral.new ≡ flat_map (read_for form.now.thousands.now form.now.decimal) bytes.now }
@@ -98,7 +97,7 @@ pub(crate) fn write_read(form: &FieldForm<'_>, bytes: &[u8], numeral: &mut Recor
 }
 
 /// Whether a byte is a digit of a whole number.
-fn is_digit(is_hex: bool, byte: u8) -> bool
+pub(crate) fn is_digit(is_hex: bool, byte: u8) -> bool
     ensures { result ≡ is_digit is_hex byte }
 {
     if is_hex {
@@ -108,8 +107,8 @@ fn is_digit(is_hex: bool, byte: u8) -> bool
     }
 }
 
-/// How many digits bytes begin with.
-fn digits_of(is_hex: bool, bytes: &[u8]) -> usize
+/// Counts the digits at the start of bytes.
+pub(crate) fn digits_of(is_hex: bool, bytes: &[u8]) -> usize
     ensures count { result ≡ digits_of is_hex bytes.now }
     ensures most { result ≤ length bytes.now }
 {
@@ -121,8 +120,8 @@ fn digits_of(is_hex: bool, bytes: &[u8]) -> usize
     bytes.len()
 }
 
-/// The bytes after a sign, if there is one.
-fn after_sign(bytes: &[u8]) -> &[u8]
+/// Returns the bytes without a leading sign.
+pub(crate) fn after_sign(bytes: &[u8]) -> &[u8]
     ensures value { result.now ≡ after_sign bytes.now }
     ensures short { length result.now ≤ length bytes.now }
 {
@@ -132,14 +131,14 @@ fn after_sign(bytes: &[u8]) -> &[u8]
     }
 }
 
-/// Whether one of the bytes is one of a separator.
-fn has_part(separator: &[u8], bytes: &[u8]) -> bool
+/// Whether one of the bytes is in a separator.
+pub(crate) fn has_part(separator: &[u8], bytes: &[u8]) -> bool
     ensures { result ≡ has_part separator.now bytes.now }
 {
     bytes.iter().any(|byte| separator.contains(byte))
 }
 
-/// The bytes after the first few.
+/// Returns the bytes after the first `count`.
 fn after(bytes: &[u8], count: usize) -> &[u8]
     requires { count ≤ length bytes.now }
     ensures rest { result.now ≡ drop count bytes.now }
@@ -148,7 +147,7 @@ fn after(bytes: &[u8], count: usize) -> &[u8]
     &bytes[count..]
 }
 
-/// Whether these bytes follow a group of digits: separators, three digits after each, and then bytes that are none of a
+/// Whether these bytes may follow a group of digits: separators with three digits after each, and then no byte of a
 /// separator.
 fn is_after_group(is_hex: bool, separator: &[u8], bytes: &[u8]) -> bool
     ensures { result ≡ is_after_group is_hex separator.now bytes.now }
@@ -172,7 +171,7 @@ fn is_grouped(is_hex: bool, separator: &[u8], number: &[u8]) -> bool
     1 <= first && first <= 3 && is_after_group(is_hex, separator, &number[first..])
 }
 
-/// Whether separators of thousands are wanted between groups, and a field has one elsewhere.
+/// Whether thousands separators must stand between groups, and a field has one elsewhere.
 pub(crate) fn is_misplaced(form: &FieldForm<'_>, radix: Radix, bytes: &[u8]) -> bool
     ensures { result ≡ is_misplaced form.now radix bytes.now }
 {
@@ -181,14 +180,14 @@ pub(crate) fn is_misplaced(form: &FieldForm<'_>, radix: Radix, bytes: &[u8]) -> 
         && !is_grouped(radix.base() == 16, form.thousands, after_sign(bytes))
 }
 
-/// A byte of a number as it is written.
+/// Returns a byte of a number as it is written.
 fn marked(mark: u8, byte: u8) -> u8
     ensures { result ≡ marked mark byte }
 {
     if byte == b'.' { mark } else { byte }
 }
 
-/// Writes a reply anew, with the mark for each point. The scratch is room for it.
+/// Rewrites a reply with the mark for each point. The scratch holds a copy.
 fn write_marked(mark: u8, scratch: &mut RecordBuffer, out: &mut Output)
     ensures { out.new ≡ map (marked mark) out.old }
 {
@@ -201,7 +200,7 @@ fn write_marked(mark: u8, scratch: &mut RecordBuffer, out: &mut Output)
     }
 }
 
-/// Whether each byte is read as it is.
+/// Whether each byte is read unchanged.
 fn is_plain(form: &FieldForm<'_>) -> bool
     ensures decimal { IsTrue result → form.now.decimal ≡ 46 }
     ensures thousands { IsTrue result → form.now.thousands.now ≡ [] }
@@ -209,12 +208,12 @@ fn is_plain(form: &FieldForm<'_>) -> bool
     form.decimal == b'.' && form.thousands.is_empty()
 }
 
-/// What replies to the numeral of a field, as to a line that it is.
+/// Replies to the numeral of a field as to a line.
 pub trait FieldReply<L: Ledger> {
     /// Whether a text with its flag is the reply to a line.
     ghost Replies: { Self → List ℕ → AnswerText → Type 0 };
 
-    /// Writes out the reply to a line, and returns whether it is a refusal.
+    /// Writes the reply to a line, and returns whether it is a refusal.
     fn reply_to(&self, line: &[u8], out: &mut Output, steps: &mut Steps<L>) -> bool
         requires { out.old ≡ [] }
         ensures { Replies self.now line.now (record { text = out.new; fault = result }) };
@@ -237,7 +236,7 @@ impl<L: Ledger> FieldReply<L> for ConvertRule {
     ghost one_law = { λ rule. line_reply_one rule };
 }
 
-/// Writes out the reply to a field without a byte.
+/// Writes the reply to an empty field.
 fn reply_to_empty<R: FieldReply<L>, L: Ledger>(
     empty: Empty,
     rule: &R,
@@ -254,19 +253,19 @@ fn reply_to_empty<R: FieldReply<L>, L: Ledger>(
     }
 }
 
-/// The rule of a conversion of fields, spelled in a form.
+/// The rule that converts fields which are spelled in a form.
 #[derive(Drop)]
 pub struct FieldNumerals<'a, R> {
     /// How the numeral of a field is converted.
     pub rule: &'a R,
     /// The radix of its digits.
     pub radix: Radix,
-    /// How a field spells it.
+    /// How a field spells the numeral.
     pub form: &'a FieldForm<'a>,
 }
 
 impl<'a, R> FieldNumerals<'a, R> {
-    /// Writes out the reply to a field that has a byte.
+    /// Writes the reply to a field that is not empty.
     fn reply_to_read<L: Ledger>(
         &self,
         bytes: &[u8],
@@ -293,7 +292,7 @@ impl<'a, R> FieldNumerals<'a, R> {
         self.rule.reply_to(scratch.as_slice(), out, steps)
     }
 
-    /// Writes out the reply to a field, its number with a point.
+    /// Writes the reply to a field, with a point in its number.
     fn reply_with_point<L: Ledger>(
         &self,
         field: &[u8],

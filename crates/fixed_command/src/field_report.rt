@@ -1,5 +1,5 @@
-//! How the numerals of fields come through their conversion, and which has the greatest error. What is said of a field
-//! is the contract of a function; that a cell keeps it no contract can say, and so it is tested.
+//! The outcomes of the conversions of fields, and the greatest error. The contract of a function says what is kept of a
+//! field. Contracts cannot describe the contents of a `Cell`; tests do.
 
 ghost use Rattle.std.specs.Prelude.{◌≡◌, ◌==◌, ◌≤◌, ◌+◌, ◌*◌, ◌∷◌, [], if◌then◌else◌, length};
 ghost use Rattle.column_engine.specs.Limits.{longest_record};
@@ -18,7 +18,7 @@ use line_engine::Output;
 use std::cell::Cell;
 use std::sync::ledger::Ledger;
 
-/// How a line comes through its conversion.
+/// Returns the outcome of the conversion of a line.
 fn outcome_of_line<L: Ledger>(
     rule: &ConvertRule,
     line: &[u8],
@@ -29,7 +29,7 @@ fn outcome_of_line<L: Ledger>(
     Some(outcome_of(rule.settings(), without_return(line), steps))
 }
 
-/// How a field without a byte comes through: not at all where it stays.
+/// Returns the outcome of an empty field, or none if it stays.
 fn outcome_of_empty<L: Ledger>(
     empty: Empty,
     rule: &ConvertRule,
@@ -44,7 +44,7 @@ fn outcome_of_empty<L: Ledger>(
     }
 }
 
-/// How the numeral of a field comes through. The scratch is room for it.
+/// Returns the outcome of the numeral of a field, which is written into the scratch.
 pub fn field_outcome<L: Ledger>(
     form: &FieldForm<'_>,
     rule: &ConvertRule,
@@ -66,8 +66,7 @@ pub fn field_outcome<L: Ledger>(
     outcome_of_line(rule, scratch.as_slice(), steps)
 }
 
-/// The numeral that was read for a field, where what its bytes spell was left in the scratch: a zero for a field
-/// without a byte.
+/// Returns the numeral that was read for a field: a zero for an empty field, else what is in the scratch.
 fn numeral_read<'s>(form: &FieldForm<'_>, field: &[u8], scratch: &'s RecordBuffer) -> &'s [u8]
     ensures { result.now ≡ (if length (bare form.now field.now) == 0 then 48 ∷ [] else without_return scratch.now) }
 {
@@ -78,8 +77,7 @@ fn numeral_read<'s>(form: &FieldForm<'_>, field: &[u8], scratch: &'s RecordBuffe
     }
 }
 
-/// How many fields of a text came through, each way, where the first was that overflowed, or was refused, and which has
-/// the greatest error.
+/// The counts of a text's fields by outcome, where the first one overflowed or was refused, and the greatest error.
 #[derive(Drop)]
 pub struct FieldReport<'w> {
     watch: &'w ColumnWatch,
@@ -90,7 +88,7 @@ pub struct FieldReport<'w> {
 }
 
 impl<'w> FieldReport<'w> {
-    /// No field came through. The watch knows where a field is, and `errors` keeps the greatest error.
+    /// Returns a report of no fields. The watch knows where a field is, and `errors` keeps the greatest error.
     pub fn new(watch: &'w ColumnWatch, errors: ErrorReport) -> FieldReport<'w> {
         FieldReport {
             watch,
@@ -101,27 +99,27 @@ impl<'w> FieldReport<'w> {
         }
     }
 
-    /// How many fields came through, each way.
+    /// Returns the counts of fields by outcome.
     pub fn tally(&self) -> Tally {
         self.tally.get()
     }
 
-    /// Where the first field is that overflowed.
+    /// Returns where the first field is that overflowed.
     pub fn first_overflowed(&self) -> Option<FieldPlace> {
         self.overflowed.get()
     }
 
-    /// Where the first field is that was refused.
+    /// Returns where the first field is that was refused.
     pub fn first_refused(&self) -> Option<FieldPlace> {
         self.refused.get()
     }
 
-    /// What is kept of the greatest error.
+    /// Takes what is kept of the greatest error.
     pub fn errors(&self) -> Option<ErrorReport> {
         self.errors.replace(None)
     }
 
-    /// The numeral of the field that is answered has an error.
+    /// Notes that the numeral of the answered field has an error.
     fn note_error<L: Ledger>(&self, numeral: &[u8], steps: &mut Steps<L>)
         ensures cost { steps.new ≤ steps.old + add_per_byte * length numeral.now + add_extra }
     {
@@ -131,7 +129,7 @@ impl<'w> FieldReport<'w> {
         }
     }
 
-    /// The field that is answered came through so.
+    /// Notes the outcome of the answered field.
     fn note(&self, outcome: Outcome) {
         let place = self.watch.place();
         let mut tally = self.tally.get();
@@ -146,12 +144,12 @@ impl<'w> FieldReport<'w> {
     }
 }
 
-/// The rule of a conversion of fields that keeps how they come through.
+/// The rule of a conversion of fields that keeps their outcomes.
 #[derive(Drop)]
 pub struct ReportedNumerals<'a> {
     /// The rule.
     pub numerals: FieldNumerals<'a, ConvertRule>,
-    /// Where it is kept.
+    /// Where the outcomes are kept.
     pub report: &'a FieldReport<'a>,
 }
 

@@ -8,7 +8,7 @@ use fixed_bits::Format;
 use fixed_show::push_hex_digits;
 use text_buffer::TextBuffer;
 
-/// Two to the power of a format's width.
+/// Returns two to the power of a format's width.
 fn turn_of(format: Format) -> u128
     ensures turn { result ≡ 2 ^ format.width }
     ensures most { result ≤ 2 ^ 64 }
@@ -17,7 +17,7 @@ fn turn_of(format: Format) -> u128
     1 << format.width()
 }
 
-/// The bits of a format as an unsigned number: two's complement.
+/// Returns the bits of a format as an unsigned number, in two's complement.
 pub fn word_of(format: Format, bits: i128) -> u64
     requires { IsInRange format.signed format.width bits }
     ensures { result ≡ word_of format.width bits }

@@ -1,5 +1,6 @@
-//! Laws of the definitions, each the contract of a function that does nothing.
+//! Laws of the definitions. Each is the contract of a function that does nothing.
 
+ghost use Rattle.fixed_command.specs.Explained.{BytesAreTheOnes, OverflowIsTheOne};
 ghost use Rattle.fixed_command.specs.Laws.{OutcomeIsTheOne, PrintedBitsAreWords};
 ghost use Rattle.fixed_command.specs.LineBlocks.{LineBlockIsTheOne};
 ghost use Rattle.fixed_command.specs.NameLaws.{NamesAreTheOnes};
@@ -11,11 +12,12 @@ ghost use Rattle.fixed_command.specs.RunLaws.{
   ReplyIsTheOne,
   WholeRunIsTheOne,
 };
+ghost use Rattle.fixed_command.specs.ShownNames.{ShownNamesAreNames};
 
 use line_engine::{LineRule, WholeRule};
 use std::sync::ledger::Ledger;
 
-/// What is printed of bits, in decimal or in hexadecimal, is the word of those bits: lines of words undo it.
+/// Bits printed in decimal or hexadecimal are read back as the same bits.
 pub fn printed_bits_are_words()
     ensures { PrintedBitsAreWords }
 {}
@@ -26,7 +28,7 @@ pub fn reply_is_the_one()
     ensures line { LineReplyIsTheOne }
 {}
 
-/// Of some words at most one is the first that is refused, and it is refused with one block.
+/// At most one operand is the first refused one, and it has one block.
 pub fn first_refused_is_the_one()
     ensures { FirstRefusedIsTheOne }
 {}
@@ -36,18 +38,18 @@ pub fn line_block_is_the_one()
     ensures { LineBlockIsTheOne }
 {}
 
-/// The words and the count of failures say how a run over words ended.
+/// The operands and the count of failures determine how a run over operands ended.
 pub fn blocks_end_is_the_one()
     ensures { BlocksEndIsTheOne }
 {}
 
-/// By a rule over lines, two runs over one input within the limit that found memory and no failure wrote the same, and
-/// ended alike.
+/// Two runs of a rule over lines on one input within the limit, with memory and without failures, write the same and
+/// end alike.
 pub fn line_run_is_the_one<R: LineRule<L>, L: Ledger>(_rule: &R)
     ensures { LineRunIsTheOne (R.Answers _rule.now) }
 {}
 
-/// And so did two runs by a rule over whole inputs.
+/// So do two runs of a rule over whole inputs.
 pub fn whole_run_is_the_one<R: WholeRule<L>, L: Ledger>(_rule: &R)
     ensures { WholeRunIsTheOne (R.Answers _rule.now) }
 {}
@@ -57,7 +59,23 @@ pub fn names_are_the_ones()
     ensures { NamesAreTheOnes }
 {}
 
-/// A numeral comes through its conversion in one way.
+/// The names that are shown of a format in HLS, VHDL and MATLAB are read as that format.
+pub fn shown_names_are_names()
+    ensures { ShownNamesAreNames }
+{}
+
+/// A conversion has one outcome for each numeral.
 pub fn outcome_is_the_one()
     ensures { OutcomeIsTheOne }
+{}
+
+/// The explanation of an invalid byte of a numeral or a field is one text.
+#[tactic(auto, using(crate::proofs::ExplainLawLemmas::bytes_one))]
+pub fn bytes_are_the_ones()
+    ensures { BytesAreTheOnes }
+{}
+
+/// The explanation of an overflow is one text.
+pub fn overflow_is_the_one()
+    ensures { OverflowIsTheOne }
 {}

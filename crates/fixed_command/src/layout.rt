@@ -1,12 +1,13 @@
-//! Lines as people have them: blanks around a numeral, blank lines, and comments.
+//! Lines as people write them: blanks around a numeral, blank lines, and comments.
 //!
-//! A skipped line is answered by an empty line. So line k of the output still answers line k of the input, and `paste`
-//! puts the two side by side. A comment is a whole line: what follows a numeral is part of it. A line of more than
-//! 1,048,576 bytes is too long, also a blank one: the bytes that are kept of a line must be answered as the line is.
+//! A skipped line is answered with an empty line. So line k of the output still answers line k of the input, and
+//! `paste` puts the two side by side. A comment is a whole line: text after a numeral is part of the numeral. A line of
+//! more than 1,048,576 bytes is too long, even a blank one: the bytes that are kept of a line must be answered as the
+//! line is.
 
 ghost use Rattle.std.specs.Prelude.{◌≡◌, ◌≤◌, ◌+◌, ◌*◌, MatchOption, ◌<◌, length};
 ghost use Rattle.fixed_command.specs.Layout.{after_blanks, blanks_before, is_skipped, numeral_of};
-ghost use Rattle.fixed_command.specs.Layout.{trimmed};
+ghost use Rattle.fixed_command.specs.Layout.{trimmed, without_blanks};
 
 use crate::convert::{ConvertRule, without_return};
 use fixed_respell::{LineFault, push_fault};
@@ -16,10 +17,10 @@ use std::marker::Model;
 use std::sync::ledger::Ledger;
 use text_buffer::TextBuffer;
 
-/// How many bytes a comment's prefix has at most.
+/// The length of the longest comment prefix, in bytes.
 pub const MAX_PREFIX: usize = 64;
 
-/// What a line may have beside its numeral.
+/// What a line may have besides its numeral.
 #[derive(Drop)]
 pub struct Layout {
     is_trimmed: bool,
@@ -39,7 +40,7 @@ impl Model for Layout {
     } };
 }
 
-/// Bytes without the blanks at the beginning.
+/// Returns bytes without leading blanks.
 pub(crate) fn after_blanks(bytes: &[u8]) -> &[u8]
     ensures value { result.now ≡ after_blanks bytes.now }
     ensures short { length result.now ≤ length bytes.now }
@@ -47,7 +48,7 @@ pub(crate) fn after_blanks(bytes: &[u8]) -> &[u8]
     bytes.trim_ascii_start()
 }
 
-/// Bytes without the blanks at both ends.
+/// Returns bytes without leading and trailing blanks.
 fn trimmed(bytes: &[u8]) -> &[u8]
     ensures value { result.now ≡ trimmed bytes.now }
     ensures short { length result.now ≤ length bytes.now }
@@ -56,9 +57,9 @@ fn trimmed(bytes: &[u8]) -> &[u8]
 }
 
 impl Layout {
-    /// What a line may have: with `is_trimmed` blanks around its numeral; with `skips_blank` none but blanks; and,
-    /// where `comments` is not empty, this prefix of a comment, after blanks. `None` where the prefix has more than
-    /// `MAX_PREFIX` bytes.
+    /// Returns a layout: with `is_trimmed` a line may have blanks around its numeral; with `skips_blank` it may have
+    /// only blanks; and, unless `comments` is empty, this is the prefix of a comment, after blanks. `None` if the
+    /// prefix has more than `MAX_PREFIX` bytes.
     pub fn new(is_trimmed: bool, skips_blank: bool, comments: &[u8]) -> Option<Layout>
         ensures { MatchOption result (64 < length comments.now) (λ l. l ≡ record {
           is_trimmed = is_trimmed;
@@ -78,8 +79,8 @@ impl Layout {
         })
     }
 
-    /// The same layout once more.
-    pub(crate) fn same(&self) -> Layout
+    /// Returns the same layout.
+    pub fn same(&self) -> Layout
         ensures { result ≡ self.now }
     {
         let mut comments = TextBuffer::new();
@@ -91,7 +92,7 @@ impl Layout {
         }
     }
 
-    /// The numeral of a line.
+    /// Returns the numeral of a line.
     pub fn numeral_of<'l>(&self, line: &'l [u8]) -> &'l [u8]
         ensures value { result.now ≡ numeral_of self.now line.now }
         ensures short { length result.now ≤ length line.now }
@@ -102,6 +103,14 @@ impl Layout {
         } else {
             bytes
         }
+    }
+
+    /// Returns a line without blanks around it, if it may have them; else the same line.
+    pub fn without_blanks<'l>(&self, line: &'l [u8]) -> &'l [u8]
+        ensures value { result.now ≡ without_blanks self.now line.now }
+        ensures short { length result.now ≤ length line.now }
+    {
+        if self.is_trimmed { trimmed(line) } else { line }
     }
 
     /// How many bytes of a line are blanks before its numeral.
@@ -125,17 +134,17 @@ impl Layout {
     }
 }
 
-/// The rule that answers a line with the conversion of its numeral, and a line that is skipped with an empty one.
+/// The rule that answers a line with the conversion of its numeral, and a skipped line with an empty one.
 #[derive(Drop)]
 pub struct LaidOutRule {
     /// How a numeral is converted.
     pub rule: ConvertRule,
-    /// What a line has beside it.
+    /// What a line has besides its numeral.
     pub layout: Layout,
 }
 
 impl LaidOutRule {
-    /// The same rule once more.
+    /// Returns the same rule.
     pub(crate) fn same(&self) -> LaidOutRule
         ensures rule { result.rule ≡ self.now.rule }
         ensures layout { result.layout ≡ self.now.layout }

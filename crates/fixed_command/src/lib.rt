@@ -1,7 +1,7 @@
-//! What the commands of `fixed` do, over any source and any sink.
+//! The commands of `fixed`, over any source and any sink.
 //!
-//! `convert` answers each line of an input, a numeral, with its conversion between two formats; `words` and `hex` write
-//! what its answers are made of.
+//! `convert` answers each line of an input, a numeral, with its conversion between two formats; `words` has the words
+//! of its options, and `hex` writes bits in hexadecimal.
 #![tactic(auto)]
 
 pub mod amounts;
@@ -9,19 +9,26 @@ pub mod bit_field;
 pub mod blocks;
 pub mod column;
 pub mod convert;
+pub mod error_lines;
 pub mod explain;
 pub mod explain_field;
 pub mod field;
 pub mod field_report;
 pub mod hex;
+pub mod hint;
+pub mod laid_lines;
+pub mod laid_list;
 pub mod laws;
 pub mod layout;
+pub mod least_lines;
 pub mod line_blocks;
 mod named_line;
 pub mod outcome;
 pub mod print;
 pub mod refused;
+pub mod renamed;
 pub mod spelling;
+pub mod swapped;
 pub mod task;
 pub mod watch;
 pub mod words;
@@ -31,22 +38,29 @@ pub use bit_field::field_named;
 pub use blocks::{Question, run_blocks};
 pub use column::{ColumnConversion, convert_amounts, convert_column};
 pub use convert::{ConvertRule, Settings, push_image, without_return};
+pub use error_lines::{ErrorLines, ErrorSettings};
 pub use explain::explanation;
 pub use explain_field::field_explanation;
 pub use field::{Empty, FieldForm, FieldNumerals, FieldReply};
 pub use field_report::{FieldReport, ReportedNumerals, field_outcome};
-pub use fixed_show::{Form, Part};
+pub use fixed_show::{Form, Measure, Part};
 pub use hex::{push_hex, word_of};
+pub use hint::Offers;
+pub use laid_lines::LaidOutLines;
+pub use laid_list::LaidOutList;
 pub use layout::{LaidOutRule, Layout, MAX_PREFIX};
+pub use least_lines::LeastLines;
 pub use line_blocks::BlockRule;
 pub use outcome::{
     MAX_TALLY, Outcome, Place, Tally, error_report, has_error, outcome_of, place_name, tally_text,
 };
 pub use print::{Places, Print};
 pub use refused::{RefusedWord, first_refused};
+pub use renamed::RenamedRule;
 pub use spelling::Spelling;
-pub use task::{Limit, Task, greater_end, run_convert, run_task};
-pub use watch::{Refusals, RefusedLine, Watch};
+pub use swapped::SwappedRule;
+pub use task::{Limit, Task, bytes_within, greater_end, run_convert, run_task, whole_within};
+pub use watch::{Refusals, RefusedLine, Watch, Watched};
 pub use words::{
     mode_named, policy_named, print_named, radix_named, spelling_named, target_mode_named,
 };

@@ -1,7 +1,7 @@
 //! Questions about the lines of an input, each answered with a block and an empty line after it, or with an object.
 //!
-//! An empty line follows each block, also the last, so that whoever reads the answers from a pipe knows that a block is
-//! whole. Between the blocks of a command line's words it only separates two.
+//! An empty line follows each block, also the last, so that a reader of the answers from a pipe knows that a block is
+//! complete. Between the blocks of a command line's words it only separates two.
 
 ghost use Rattle.std.specs.Prelude.{◌≡◌, ◌+◌, ◌*◌, ◌++◌, ◌≤◌, length};
 ghost use Rattle.line_engine.specs.Output.{AppendsAnswer};
@@ -15,16 +15,16 @@ use line_engine::{LineRule, MAX_LINE, Output};
 use std::sync::ledger::Ledger;
 use text_buffer::TextBuffer;
 
-/// The rule that answers a line with a block, or with an object of JSON.
+/// The rule that answers a line with a block or a JSON object.
 #[derive(Drop)]
 pub struct BlockRule {
-    /// Which of the two it is.
+    /// Block or object.
     pub form: Form,
-    /// What is asked of a line.
+    /// The question about a line.
     pub question: Question,
 }
 
-/// The format of a question is one.
+/// Shows that the binary format of a question is valid.
 fn check_format(question: Question)
     ensures { HasFormat question }
 {
@@ -38,6 +38,7 @@ fn check_format(question: Question)
         Question::Part { format, .. } => {
             let _frac = format.frac();
         }
+        Question::Amount(_) => (),
         Question::Format => (),
     }
 }
@@ -58,8 +59,8 @@ fn push_long<const N: usize>(form: Form, line: &[u8], out: &mut TextBuffer<N>)
     }
 }
 
-/// Appends the answer in a form to a line: that to a question about the line without one carriage return at its end, or
-/// that a line of more than 1,048,576 bytes is too long. Answers whether it reports a fault.
+/// Appends the answer to a line in a form: to a question about the line without one carriage return at its end, or that
+/// a line of more than 1,048,576 bytes is too long. Returns true if it reports a fault.
 pub(crate) fn push_line_block<const N: usize, L: Ledger>(
     form: Form,
     question: &Question,

@@ -1,4 +1,4 @@
-//! The line for which an input is refused, by the answer to the input: `error: line N: ` and the cause.
+//! The line for which an input is refused, found in the answer to the input: `error: line N: ` and the cause.
 
 ghost use Rattle.std.specs.Prelude.{◌≡◌, ◌<◌, ◌≤◌, ◌^◌, ◌++◌, ◌∷◌, [], List, ℕ, get_or, codes};
 ghost use Rattle.std.specs.Fmt.{decimal};
@@ -8,7 +8,7 @@ ghost use Rattle.fixed_command.specs.Watched.{line_at, refusal_text};
 use line_engine::first_line;
 use memchr::memchr;
 
-/// The number that digits spell; 0 where they spell none of 64 bits.
+/// Returns the number that digits spell; 0 if they do not spell one of 64 bits.
 fn number_of(digits: &[u8]) -> u64
     ensures { (number : ℕ) → number < 2 ^ 64 → digits.now ≡ decimal number → result ≡ number }
 {
@@ -21,7 +21,7 @@ fn number_of(digits: &[u8]) -> u64
     }
 }
 
-/// A text without the blank before it.
+/// Returns a text without the blank before it.
 fn behind_blank(text: &[u8]) -> &[u8]
     ensures { (rest : List ℕ) → text.now ≡ 32 ∷ rest → result.now ≡ rest }
 {
@@ -31,7 +31,7 @@ fn behind_blank(text: &[u8]) -> &[u8]
     }
 }
 
-/// The number before the first `: ` of a text, and what follows that.
+/// Returns the number before the first `: ` of a text, and the rest.
 fn split_number(text: &[u8]) -> (u64, &[u8])
     ensures { (number : ℕ) (rest : List ℕ) → number < 2 ^ 64 → text.now ≡ decimal number ++ (codes ": " ++ rest)
         → (result.0 ≡ number) × (result.1.now ≡ rest) }
@@ -42,7 +42,7 @@ fn split_number(text: &[u8]) -> (u64, &[u8])
     }
 }
 
-/// The number of the line for which an input is refused, and why, by the answer to the input.
+/// Returns the number of the line for which an input is refused, and why, from the answer to the input.
 pub(crate) fn line_and_message(answer: &[u8]) -> (u64, &[u8])
     ensures { (number : ℕ) (message : List ℕ) → number < 2 ^ 64 → answer.now ≡ refusal_text number message
         → (result.0 ≡ number) × (result.1.now ≡ message) }
@@ -54,7 +54,7 @@ pub(crate) fn line_and_message(answer: &[u8]) -> (u64, &[u8])
     (number, rest.strip_suffix(b"\n".as_slice()).unwrap_or(rest))
 }
 
-/// The line of an input that has this many before it; no bytes where there is none.
+/// Returns the line of an input after this many lines, or no bytes if there is none.
 fn line_behind(input: &[u8], before: u64) -> &[u8]
     ensures { result.now ≡ get_or (lines input.now) before [] }
 {
@@ -71,7 +71,7 @@ fn line_behind(input: &[u8], before: u64) -> &[u8]
     &[]
 }
 
-/// The line of this number of an input, from 1; no bytes where there is none.
+/// Returns the line of an input with this number, from 1, or no bytes if there is none.
 pub(crate) fn line_at(number: u64, input: &[u8]) -> &[u8]
     ensures { result.now ≡ line_at number input.now }
 {

@@ -1,7 +1,7 @@
-//! How numerals come through their conversion, and how many each way.
+//! Outcomes of conversions (exact, rounded, overflowed, refused) and their counts.
 //!
 //! A report reads each numeral once more, so a conversion without a report costs nothing. After a failed write there is
-//! no report, since some of the counted answers were not written.
+//! no report, because some of the counted answers were not written.
 
 ghost use Rattle.std.specs.Prelude.{◌≡◌, ◌↔◌, ◌<◌, ◌≤◌, ◌+◌, ◌*◌, ◌^◌, ◌++◌, ◌&&◌, [], IsTrue, length, unsigned_abs};
 ghost use Rattle.std.specs.Fmt.{decimal};
@@ -15,7 +15,6 @@ ghost use Rattle.fixed_report.specs.Report.{HasReport};
 use crate::convert::{Settings, frac_of, is_either, source_number};
 use crate::spelling::Spelling;
 use fixed_convert::reformat_mode;
-use fixed_read::read_format;
 use fixed_report::ErrorReport;
 use fixed_show::Shown;
 use fixed_steps::Steps;
@@ -24,7 +23,7 @@ use std::alloc::Global;
 use std::sync::ledger::Ledger;
 use text_buffer::TextBuffer;
 
-/// How a numeral comes through its conversion.
+/// The outcome of a numeral's conversion.
 #[derive(Clone, Copy, Debug, PartialEq, Eq)]
 pub enum Outcome {
     /// It is a number of the target.
@@ -37,15 +36,7 @@ pub enum Outcome {
     Refused,
 }
 
-/// Whether a number is a multiple of another.
-fn is_multiple(number: u128, of: u128) -> bool
-    requires { 0 < of }
-    ensures { IsTrue result ↔ IsMultipleOf of number }
-{
-    number % of == 0
-}
-
-/// A power of two.
+/// Returns a power of two.
 fn power(exponent: u32) -> u128
     requires { exponent ≤ 64 }
     ensures value { result ≡ 2 ^ exponent }
@@ -55,7 +46,15 @@ fn power(exponent: u32) -> u128
     1 << exponent
 }
 
-/// The magnitude of a number of at most 64 bits.
+/// Whether a number is a multiple of a power of two. A division of 128 bits is slow.
+fn is_multiple(number: u128, exponent: u32) -> bool
+    requires { exponent ≤ 64 }
+    ensures { IsTrue result ↔ IsMultipleOf (2 ^ exponent) number }
+{
+    (number >> exponent) * power(exponent) == number
+}
+
+/// Returns the magnitude of a number of at most 64 bits.
 fn magnitude_of(number: i128) -> u64
     requires { IsWide number }
     ensures { result ≡ unsigned_abs number }
@@ -63,7 +62,7 @@ fn magnitude_of(number: i128) -> u64
     number.unsigned_abs() as u64
 }
 
-/// A number of at most 64 bits times a power of two.
+/// Returns a number of at most 64 bits times a power of two.
 fn scaled(number: u64, exponent: u32) -> u128
     requires { exponent ≤ 64 }
     ensures { result ≡ number * 2 ^ exponent }
@@ -71,45 +70,17 @@ fn scaled(number: u64, exponent: u32) -> u128
     u128::from(number) * power(exponent)
 }
 
-/// Whether a number of ulps of 2^-`from` is one of ulps of 2^-`to`.
+/// Whether a number of ulps of 2^-`from` is a whole number of ulps of 2^-`to`.
 fn is_whole_moved(number: i128, from: u32, to: u32) -> bool
     requires wide { IsWide number }
     requires from { from ≤ 64 }
     requires to { to ≤ 64 }
     ensures { IsTrue result ↔ IsWholeMoved number from to }
 {
-    is_multiple(scaled(magnitude_of(number), to), power(from))
+    is_multiple(scaled(magnitude_of(number), to), from)
 }
 
-/// Whether what a line spells is a whole number of ulps of the source.
-fn is_whole_source<L: Ledger>(settings: &Settings, numeral: &[u8], steps: &mut Steps<L>) -> bool
-    ensures whole { IsTrue result ↔ IsWholeSource settings.now.spelling settings.now numeral.now }
-    ensures cost { steps.new ≤ steps.old + 8 * length numeral.now + 128 }
-{
-    match settings.spelling {
-        Spelling::Numeral => is_whole_numeral(settings, numeral, steps),
-        Spelling::Word => true,
-    }
-}
-
-/// Whether a numeral is a whole number of ulps of the source.
-fn is_whole_numeral<L: Ledger>(settings: &Settings, numeral: &[u8], steps: &mut Steps<L>) -> bool
-    ensures whole { IsTrue result ↔ IsWholeSource Spelling.Numeral settings.now numeral.now }
-    ensures cost { steps.new ≤ steps.old + 8 * length numeral.now + 128 }
-{
-    match read_format(
-        numeral,
-        settings.radix,
-        settings.source,
-        settings.mode,
-        steps,
-    ) {
-        Ok(found) => found.is_exact(),
-        Err(_) => false,
-    }
-}
-
-/// Whether both hold.
+/// Whether both conditions hold.
 fn is_both(one: bool, other: bool) -> bool
     ensures { result ≡ (one && other) }
 {
@@ -128,7 +99,7 @@ fn is_exact(settings: &Settings, numeral: &[u8], number: i128, is_whole: bool) -
     is_both(is_whole, is_whole_moved(number, from, to))
 }
 
-/// Which outcome it is, by whether a number was out of its format, and whether nothing was rounded.
+/// Returns the outcome, by whether a number was out of its format, and whether nothing was rounded.
 fn outcome_by(is_overflowed: bool, is_exact: bool) -> Outcome
     ensures { result ≡ outcome_by is_overflowed is_exact }
 {
@@ -141,11 +112,11 @@ fn outcome_by(is_overflowed: bool, is_exact: bool) -> Outcome
     }
 }
 
-/// How a number of the source comes to the target, where it is known whether it was rounded into the source.
-fn moved_outcome(settings: &Settings, numeral: &[u8], found: &Shown, is_whole: bool) -> Outcome
+/// Returns the outcome of moving a number of the source to the target.
+fn moved_outcome(settings: &Settings, numeral: &[u8], found: &Shown) -> Outcome
     requires wide { IsWide found.now.bits }
     requires source { IsSource settings.now.spelling settings.now numeral.now found.now.bits found.now.overflowed }
-    requires whole { IsTrue is_whole ↔ IsWholeSource settings.now.spelling settings.now numeral.now }
+    requires whole { IsTrue found.now.is_exact ↔ IsWholeSource settings.now.spelling settings.now numeral.now }
     ensures { IsOutcome result settings.now numeral.now }
 {
     let s = settings;
@@ -154,26 +125,26 @@ fn moved_outcome(settings: &Settings, numeral: &[u8], found: &Shown, is_whole: b
         None => Outcome::Refused,
         Some((_bits, target_overflowed)) => {
             let is_overflowed = is_either(found.overflowed, target_overflowed);
-            outcome_by(is_overflowed, is_exact(s, numeral, found.bits, is_whole))
+            outcome_by(
+                is_overflowed,
+                is_exact(s, numeral, found.bits, found.is_exact),
+            )
         }
     }
 }
 
-/// How a numeral, or a word, comes through its conversion.
+/// Returns the outcome of the conversion of a numeral or a register word.
 pub fn outcome_of<L: Ledger>(settings: &Settings, numeral: &[u8], steps: &mut Steps<L>) -> Outcome
     ensures outcome { IsOutcome result settings.now numeral.now }
     ensures cost { steps.new ≤ steps.old + 16 * length numeral.now + 704 }
 {
     match source_number(settings, numeral, steps) {
         Err(_) => Outcome::Refused,
-        Ok(found) => {
-            let is_whole = is_whole_source(settings, numeral, steps);
-            moved_outcome(settings, numeral, &found, is_whole)
-        }
+        Ok(found) => moved_outcome(settings, numeral, &found),
     }
 }
 
-/// Whether a numeral that came through so has an error of its own: it is in range of both formats, and no word of bits.
+/// Whether a numeral with this outcome has an error: it is in range of both formats, and not a register word.
 pub fn has_error(spelling: Spelling, outcome: Outcome) -> bool
     ensures { result ≡ has_error spelling outcome }
 {
@@ -188,18 +159,18 @@ pub fn has_error(spelling: Spelling, outcome: Outcome) -> bool
     }
 }
 
-/// What is to be kept of the greatest error of numerals, where they are read into the source.
+/// Returns an empty report of the greatest error of numerals that are read into the source.
 pub fn error_report(alloc: Global, settings: &Settings) -> ErrorReport
     ensures radix { result.radix ≡ settings.now.radix }
     ensures format { result.format ≡ settings.now.source }
     ensures mode { result.mode ≡ settings.now.mode }
-    ensures none { HasReport settings.now.mode settings.now.radix settings.now.source [] result.is_lost
+    ensures none { HasReport settings.now.mode settings.now.radix settings.now.source [] result.lost
         result.greatest }
 {
     ErrorReport::new(alloc, settings.radix, settings.source, settings.mode)
 }
 
-/// How many numerals of an input came through, each way, and where the first was that overflowed, or was refused.
+/// The counts of an input's numerals by outcome, and where the first one overflowed or was refused.
 #[derive(Clone, Copy, Debug, PartialEq, Eq)]
 pub struct Tally {
     /// How many are numbers of the target.
@@ -210,20 +181,20 @@ pub struct Tally {
     pub overflowed: u64,
     /// How many have no number.
     pub refused: u64,
-    /// The line, or record, of the first that overflowed, from 1; 0 where there is none.
+    /// The line, or record, of the first that overflowed, from 1; 0 if there is none.
     pub first_overflowed: u64,
-    /// The line, or record, of the first that was refused, from 1; 0 where there is none.
+    /// The line, or record, of the first that was refused, from 1; 0 if there is none.
     pub first_refused: u64,
 }
 
-/// One more; the greatest count is not passed.
+/// Adds one to a count, up to the greatest count.
 pub(crate) fn one_more(count: u64) -> u64
     ensures { result ≡ one_more count }
 {
     if count == u64::MAX { count } else { count + 1 }
 }
 
-/// The place of the first: 0 where there is none.
+/// Returns the first line or record: `first` unless it is 0, then `place`.
 fn first_of(first: u64, place: u64) -> u64
     ensures { result ≡ first_of first place }
 {
@@ -231,7 +202,7 @@ fn first_of(first: u64, place: u64) -> u64
 }
 
 impl Tally {
-    /// No numeral came through.
+    /// Returns a tally of no numerals.
     pub fn new() -> Tally
         ensures { result ≡ record {
           exact = 0;
@@ -271,7 +242,7 @@ impl Tally {
     }
 }
 
-/// What a numeral is in: a line, or a record.
+/// Where a numeral is: in a line, or in a record.
 #[derive(Clone, Copy, Debug, PartialEq, Eq)]
 pub enum Place {
     /// A line.
@@ -291,7 +262,7 @@ pub fn place_name(place: Place) -> &'static str
     }
 }
 
-/// How many bytes the text of a tally has at most.
+/// The length of the longest text of a tally, in bytes.
 pub const MAX_TALLY: usize = 320;
 
 /// Appends a count.
@@ -319,7 +290,7 @@ fn push_first(out: &mut TextBuffer<MAX_TALLY>, first: u64, place: Place)
     }
 }
 
-/// How many numerals there were; the greatest count is not passed.
+/// Counts all numerals, up to the greatest count.
 fn total_of(tally: &Tally) -> u64
     ensures { result ≡ total tally.now }
 {
@@ -329,7 +300,7 @@ fn total_of(tally: &Tally) -> u64
         .saturating_add(tally.refused)
 }
 
-/// What a tally says, of numerals in lines or in records.
+/// Returns the text of a tally of numerals in lines or in records.
 pub fn tally_text(tally: &Tally, place: Place) -> TextBuffer<MAX_TALLY>
     ensures { result ≡ tally_text place tally.now }
 {
@@ -338,7 +309,7 @@ pub fn tally_text(tally: &Tally, place: Place) -> TextBuffer<MAX_TALLY>
     text
 }
 
-/// Appends what a tally says.
+/// Appends the text of a tally.
 fn push_tally(out: &mut TextBuffer<MAX_TALLY>, tally: &Tally, place: Place)
     requires empty { out.old ≡ [] }
     ensures { out.new ≡ tally_text place tally.now }

@@ -1,4 +1,4 @@
-//! What of an answer is written.
+//! Which part of an answer is written.
 
 ghost use Rattle.std.specs.Prelude.{◌≡◌, ◌≤◌, MatchOption};
 
@@ -24,7 +24,7 @@ impl Model for Places {
 }
 
 impl Places {
-    /// This many digits. `None` where they are more than 64.
+    /// Returns this many digits. `None` if there are more than 64.
     pub fn new(count: u32) -> Option<Places>
         ensures { MatchOption result (¬ (count ≤ 64)) (λ p. p ≡ count) }
     {
@@ -44,7 +44,7 @@ impl Places {
     }
 }
 
-/// What of an answer `TEXT BITS VERDICT` is written.
+/// Which part of an answer `TEXT BITS VERDICT` is written.
 #[derive(Clone, Copy, Debug, PartialEq, Eq)]
 pub enum Print {
     /// The text.
@@ -55,7 +55,7 @@ pub enum Print {
     Bits,
     /// The bits in hexadecimal, of the target's width, after `0x`.
     Hex,
-    /// The bits in hexadecimal alone, as `$readmemh` reads them.
+    /// The bits in hexadecimal without `0x`, as `$readmemh` reads them.
     Readmemh,
     /// The exact value of the bits.
     Value,

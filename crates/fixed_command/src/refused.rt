@@ -1,4 +1,4 @@
-//! The first of some words that is refused.
+//! The first refused word of several.
 
 ghost use Rattle.std.specs.Prelude.{◌≡◌, All, MatchOption, map};
 ghost use Rattle.fixed_command.specs.Refused.{IsClean, IsFirstRefused};
@@ -9,16 +9,16 @@ use fixed_steps::Steps;
 use std::sync::ledger::Ledger;
 use text_buffer::TextBuffer;
 
-/// A word that is refused.
+/// A refused word.
 #[derive(Drop)]
 pub struct RefusedWord {
-    /// Its place among the words, counted from 0.
+    /// Its index among the words, from 0.
     pub place: usize,
     /// The block that says why.
     pub block: TextBuffer<MAX_BLOCK>,
 }
 
-/// The first of the words that is refused where the question is asked of it. None where none is.
+/// Returns the first word that the question refuses. `None` if it refuses none.
 pub fn first_refused<L: Ledger>(
     question: &Question,
     words: &[&str],

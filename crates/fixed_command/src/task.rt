@@ -1,34 +1,41 @@
-//! What a command does with an input, over any source and any sink.
+//! The tasks of commands, over any source and any sink.
 
-ghost use Rattle.std.specs.Prelude.{◌≡◌, ◌≤◌, MatchOption, max};
+ghost use Rattle.std.specs.Prelude.{◌≡◌, ◌≤◌, MatchOption, Some, max};
 ghost use Rattle.line_engine.specs.Program.{outside};
 ghost use Rattle.line_engine.specs.Status.{code_of};
 ghost use Rattle.fixed_constants.specs.Forms.{IsFormAnswer};
+ghost use Rattle.fixed_constants.specs.Plain.{IsPlainAnswer};
 ghost use Rattle.fixed_columns.specs.Answer as columns;
 ghost use Rattle.fixed_enclose.specs.Answer as enclose;
-ghost use Rattle.fixed_least.specs.Least as least;
 ghost use Rattle.fixed_respell.specs.Answer.{IsAnswer};
 ghost use Rattle.fixed_command.specs.Convert.{IsLineReply, IsReply};
-ghost use Rattle.fixed_command.specs.Layout.{IsLaidOut};
-ghost use Rattle.fixed_command.specs.Limits.{limit_of, max_limit, no_limit};
+ghost use Rattle.fixed_command.specs.Errors.{IsErrorLine};
+ghost use Rattle.fixed_command.specs.LaidList.{laid_out};
+ghost use Rattle.fixed_command.specs.Layout.{AnswersLaidOut, IsLaidOut};
+ghost use Rattle.fixed_command.specs.LeastLines.{IsLeastWritten};
+ghost use Rattle.fixed_command.specs.Limits.{limit_of, max_limit, no_limit, whole_limit_of};
 ghost use Rattle.fixed_command.specs.LineBlocks.{IsLineBlock};
 ghost use Rattle.fixed_command.specs.Products.{IsProduct};
+ghost use Rattle.fixed_command.specs.Renamed.{IsRenamedAnswer};
 ghost use Rattle.fixed_command.specs.Runs.{HasLineRun, IsWholeRun, TaskRuns, reported_extra, reported_per_byte};
 ghost use Rattle.line_engine.specs.WholeRun.{EndsBeforeWriting};
 
 use crate::ConvertRule;
 use crate::blocks::Question;
-use crate::layout::LaidOutRule;
+use crate::error_lines::ErrorLines;
+use crate::laid_lines::LaidOutLines;
+use crate::laid_list::LaidOutList;
+use crate::layout::{LaidOutRule, Layout};
+use crate::least_lines::LeastLines;
 use crate::line_blocks::BlockRule;
 use crate::outcome::error_report;
+use crate::renamed::RenamedRule;
 use crate::watch::{
-    Product, ReportedLaidOut, Watch, WatchedBlocks, WatchedEnclosures, WatchedLaidOut,
-    WatchedLines, WatchedNumerals, WatchedWhole,
+    Product, ReportedLaidOut, Watch, WatchedBlocks, WatchedEnclosures, WatchedErrors,
+    WatchedLaidOut, WatchedLines, WatchedNumerals, WatchedWhole,
 };
 use fixed_columns::ColumnsRule;
-use fixed_constants::FormRule;
-use fixed_least::LeastRule;
-use fixed_numeral::Radix;
+use fixed_constants::{FormRule, PlainRule};
 use fixed_show::Form;
 use fixed_steps::Steps;
 use line_engine::{
@@ -38,7 +45,7 @@ use std::alloc::Global;
 use std::marker::Model;
 use std::sync::ledger::Ledger;
 
-/// How many bytes an input has at most, from 1 to 4,294,967,296.
+/// The most bytes of an input, from 1 to 4,294,967,296.
 #[derive(Drop)]
 pub struct Limit {
     bytes: u64,
@@ -57,9 +64,10 @@ impl Model for Limit {
 }
 
 impl Limit {
-    /// The limit of this many bytes. `None` where it is out of its range.
+    /// Returns the limit of this many bytes. `None` if it is out of range.
     pub fn new(bytes: u64) -> Option<Limit>
-        ensures { MatchOption result (¬ ((1 ≤ bytes) × (bytes ≤ max_limit))) (λ l. l ≡ bytes) }
+        ensures { MatchOption result (¬ ((1 ≤ bytes) × (bytes ≤ max_limit)))
+            (λ l. (l ≡ bytes) × (1 ≤ bytes) × (bytes ≤ max_limit)) }
     {
         if bytes >= 1 && bytes <= MAX_LIMIT {
             Some(Limit { bytes })
@@ -78,30 +86,36 @@ impl Limit {
     }
 }
 
-/// What is done with an input.
+/// What to do with an input.
 #[derive(Drop)]
 pub enum Task<'a> {
-    /// Each line is answered as one of `fixed_tool`, in an input within a limit where there is one.
-    Lines(Option<Limit>),
+    /// Each line is answered as `fixed_tool` answers it.
+    Lines,
     /// Each line is a numeral that is converted.
     Convert(ConvertRule),
-    /// The same of lines as people have them.
+    /// The same for lines as people write them.
     LaidOut(LaidOutRule),
-    /// The same, and it is kept how each numeral comes through, and which has the greatest error.
+    /// The same, with a report of the outcomes and of the greatest error.
     Reported(LaidOutRule),
+    /// Each line is answered with the error of its numeral.
+    Errors(ErrorLines),
     /// Each line is answered with the enclosure of its numeral.
     Enclose,
-    /// Each line is answered in a form, with what a question asks of it.
+    /// Each line is answered in a form, as a question requests.
     Ask(Form, Question),
-    /// The lines are numerals of this radix; the answer is the least format that holds them.
-    Least(Radix),
-    /// The input is a constants file; the answer is its text in this form.
+    /// The same for lines as people write them.
+    LaidOutAsk(Form, Question, Layout),
+    /// The lines are numerals; the answer is the least format that holds them.
+    Least(LeastLines),
+    /// The same for lines as people write them.
+    LaidOutLeast(LeastLines, Layout),
+    /// The input is a constants file, with any blanks and comments; the answer is its text in this form.
     Constants(FormRule<'a>),
-    /// The lines are cells, in an input within the limit; the answer is the column of them in order.
-    Columns(Limit),
+    /// The lines are cells; the answer is the column of them in order.
+    Columns,
 }
 
-/// Has each line of an input answered by a rule.
+/// Answers each line of an input by a rule.
 fn run_rule<R: LineRule<L>, S: Source, K: Sink, L: Ledger>(
     alloc: Global,
     limit: u64,
@@ -123,7 +137,7 @@ fn run_rule<R: LineRule<L>, S: Source, K: Sink, L: Ledger>(
     run_lines(alloc, limit, rule, source, sink, steps)
 }
 
-/// Has a whole input answered by a rule.
+/// Answers a whole input by a rule.
 fn run_whole_rule<R: WholeRule<L>, S: Source, K: Sink, L: Ledger>(
     alloc: Global,
     limit: u64,
@@ -143,8 +157,8 @@ fn run_whole_rule<R: WholeRule<L>, S: Source, K: Sink, L: Ledger>(
     run_whole(alloc, limit, rule, source, sink, steps)
 }
 
-/// How many bytes an input of lines has at most.
-fn bytes_within(limit: &Option<Limit>) -> u64
+/// Returns the most bytes of an input that is read piece by piece: 2^62 without a limit.
+pub fn bytes_within(limit: &Option<Limit>) -> u64
     ensures value { result ≡ limit_of limit.now }
     ensures some { 1 ≤ result }
     ensures most { result ≤ no_limit }
@@ -152,6 +166,17 @@ fn bytes_within(limit: &Option<Limit>) -> u64
     match limit {
         Some(limit) => limit.bytes(),
         None => NO_LIMIT,
+    }
+}
+
+/// Returns the most bytes of an input that is read whole: 4,294,967,296 without a limit.
+pub fn whole_within(limit: &Option<Limit>) -> u64
+    ensures value { result ≡ whole_limit_of limit.now }
+    ensures most { result ≤ max_limit }
+{
+    match limit {
+        Some(limit) => limit.bytes(),
+        None => MAX_LIMIT,
     }
 }
 
@@ -182,12 +207,13 @@ fn run_words<S: Source, K: Sink, L: Ledger>(
 /// Answers each line of an input with the enclosure of its numeral.
 fn run_enclosures<S: Source, K: Sink, L: Ledger>(
     alloc: Global,
+    limit: &Option<Limit>,
     watch: &Watch,
     source: &mut S,
     sink: &mut K,
     steps: &mut Steps<L>,
 ) -> Status
-    ensures run { HasLineRun enclose.IsAnswer no_limit 16 1248
+    ensures run { HasLineRun enclose.IsAnswer (limit_of limit.now) 16 1248
         (outside (S.left source.old) (S.asked source.old) (S.failures source.old)
         (K.written sink.old) (K.failures sink.old) steps.old)
         (outside (S.left source.new) (S.asked source.new) (S.failures source.new)
@@ -197,14 +223,15 @@ fn run_enclosures<S: Source, K: Sink, L: Ledger>(
     let rule = WatchedEnclosures {
         watch: Watch::new(),
     };
-    let status = run_rule(alloc, NO_LIMIT, &rule, source, sink, steps);
+    let status = run_rule(alloc, bytes_within(limit), &rule, source, sink, steps);
     watch.take(&rule.watch);
     status
 }
 
-/// Answers each line of an input in a form, with what a question asks of it.
+/// Answers each line of an input in a form, as a question requests.
 fn run_questions<S: Source, K: Sink, L: Ledger>(
     alloc: Global,
+    limit: &Option<Limit>,
     form: Form,
     question: Question,
     watch: &Watch,
@@ -212,7 +239,7 @@ fn run_questions<S: Source, K: Sink, L: Ledger>(
     sink: &mut K,
     steps: &mut Steps<L>,
 ) -> Status
-    ensures run { HasLineRun (IsLineBlock form question) no_limit 26 3307
+    ensures run { HasLineRun (IsLineBlock form question) (limit_of limit.now) 26 3307
         (outside (S.left source.old) (S.asked source.old) (S.failures source.old)
         (K.written sink.old) (K.failures sink.old) steps.old)
         (outside (S.left source.new) (S.asked source.new) (S.failures source.new)
@@ -223,22 +250,54 @@ fn run_questions<S: Source, K: Sink, L: Ledger>(
         rule: BlockRule { form, question },
         watch: Watch::new(),
     };
-    let status = run_rule(alloc, NO_LIMIT, &rule, source, sink, steps);
+    let status = run_rule(alloc, bytes_within(limit), &rule, source, sink, steps);
     watch.take(&rule.watch);
     status
 }
 
-/// Answers each line of an input with the conversion of its numeral. It takes memory
-/// for one line buffer before the first read.
+/// Answers each line of an input, as people write them, in a form, as a question requests.
+fn run_laid_questions<S: Source, K: Sink, L: Ledger>(
+    alloc: Global,
+    limit: &Option<Limit>,
+    rule: BlockRule,
+    layout: &Layout,
+    watch: &Watch,
+    source: &mut S,
+    sink: &mut K,
+    steps: &mut Steps<L>,
+) -> Status
+    ensures run { HasLineRun (AnswersLaidOut layout.now (IsLineBlock rule.form rule.question)) (limit_of limit.now) 26
+        3307
+        (outside (S.left source.old) (S.asked source.old) (S.failures source.old)
+        (K.written sink.old) (K.failures sink.old) steps.old)
+        (outside (S.left source.new) (S.asked source.new) (S.failures source.new)
+        (K.written sink.new) (K.failures sink.new) steps.new) result }
+    ensures memory { result ≡ Status.NoMemory → sink.new ≡ sink.old }
+{
+    let laid = LaidOutLines {
+        rule: WatchedBlocks {
+            rule,
+            watch: Watch::new(),
+        },
+        layout: layout.same(),
+    };
+    let status = run_rule(alloc, bytes_within(limit), &laid, source, sink, steps);
+    watch.take(&laid.rule.watch);
+    status
+}
+
+/// Answers each line of an input with the conversion of its numeral. It allocates one line buffer before the first
+/// read.
 pub fn run_convert<S: Source, K: Sink, L: Ledger>(
     alloc: Global,
+    limit: &Option<Limit>,
     rule: &ConvertRule,
     watch: &Watch,
     source: &mut S,
     sink: &mut K,
     steps: &mut Steps<L>,
 ) -> Status
-    ensures run { HasLineRun (IsLineReply rule.now) no_limit 8 624
+    ensures run { HasLineRun (IsLineReply rule.now) (limit_of limit.now) 8 624
         (outside (S.left source.old) (S.asked source.old) (S.failures source.old)
         (K.written sink.old) (K.failures sink.old) steps.old)
         (outside (S.left source.new) (S.asked source.new) (S.failures source.new)
@@ -250,21 +309,22 @@ pub fn run_convert<S: Source, K: Sink, L: Ledger>(
         rule: ConvertRule::new(*rule.settings()),
         watch: Watch::new(),
     };
-    let status = run_rule(alloc, NO_LIMIT, &rule, source, sink, steps);
+    let status = run_rule(alloc, bytes_within(limit), &rule, source, sink, steps);
     watch.take(&rule.watch);
     status
 }
 
-/// Answers each line of an input, as people have them, with the conversion of its numeral.
+/// Answers each line of an input, as people write them, with the conversion of its numeral.
 fn run_laid_out<S: Source, K: Sink, L: Ledger>(
     alloc: Global,
+    limit: &Option<Limit>,
     laid: &LaidOutRule,
     watch: &Watch,
     source: &mut S,
     sink: &mut K,
     steps: &mut Steps<L>,
 ) -> Status
-    ensures run { HasLineRun (IsLaidOut laid.now.layout (IsReply laid.now.rule)) no_limit 8 624
+    ensures run { HasLineRun (IsLaidOut laid.now.layout (IsReply laid.now.rule)) (limit_of limit.now) 8 624
         (outside (S.left source.old) (S.asked source.old) (S.failures source.old)
         (K.written sink.old) (K.failures sink.old) steps.old)
         (outside (S.left source.new) (S.asked source.new) (S.failures source.new)
@@ -275,21 +335,49 @@ fn run_laid_out<S: Source, K: Sink, L: Ledger>(
         laid: laid.same(),
         watch: Watch::new(),
     };
-    let status = run_rule(alloc, NO_LIMIT, &rule, source, sink, steps);
+    let status = run_rule(alloc, bytes_within(limit), &rule, source, sink, steps);
     watch.take(&rule.watch);
     status
 }
 
-/// The same, where it is kept how each numeral comes through, and which has the greatest error.
+/// Answers each line of an input with the error of its numeral.
+fn run_errors<S: Source, K: Sink, L: Ledger>(
+    alloc: Global,
+    limit: &Option<Limit>,
+    lines: &ErrorLines,
+    watch: &Watch,
+    source: &mut S,
+    sink: &mut K,
+    steps: &mut Steps<L>,
+) -> Status
+    ensures run { HasLineRun (IsErrorLine lines.now) (limit_of limit.now) 11 1565
+        (outside (S.left source.old) (S.asked source.old) (S.failures source.old)
+        (K.written sink.old) (K.failures sink.old) steps.old)
+        (outside (S.left source.new) (S.asked source.new) (S.failures source.new)
+        (K.written sink.new) (K.failures sink.new) steps.new) result }
+    ensures memory { result ≡ Status.NoMemory → sink.new ≡ sink.old }
+{
+    let rule = WatchedErrors {
+        lines: lines.same(),
+        watch: Watch::new(),
+    };
+    let status = run_rule(alloc, bytes_within(limit), &rule, source, sink, steps);
+    watch.take(&rule.watch);
+    status
+}
+
+/// Answers each line of an input, as people write them, with the conversion of its numeral, and reports the outcomes
+/// and the greatest error.
 fn run_reported<S: Source, K: Sink, L: Ledger>(
     alloc: Global,
+    limit: &Option<Limit>,
     laid: &LaidOutRule,
     watch: &Watch,
     source: &mut S,
     sink: &mut K,
     steps: &mut Steps<L>,
 ) -> Status
-    ensures run { HasLineRun (IsLaidOut laid.now.layout (IsReply laid.now.rule)) no_limit reported_per_byte
+    ensures run { HasLineRun (IsLaidOut laid.now.layout (IsReply laid.now.rule)) (limit_of limit.now) reported_per_byte
         reported_extra
         (outside (S.left source.old) (S.asked source.old) (S.failures source.old)
         (K.written sink.old) (K.failures sink.old) steps.old)
@@ -301,32 +389,36 @@ fn run_reported<S: Source, K: Sink, L: Ledger>(
         laid: laid.same(),
         watch: Watch::of_errors(error_report(alloc, laid.rule.settings())),
     };
-    let status = run_rule(alloc, NO_LIMIT, &rule, source, sink, steps);
+    let status = run_rule(alloc, bytes_within(limit), &rule, source, sink, steps);
     watch.take(&rule.watch);
     status
 }
 
-/// Answers a constants file of at most 4,294,967,296 bytes with its text in a form; of one with a fault nothing is
-/// written.
+/// Answers a constants file within the limit, with any blanks and comments, with its text in a form. Writes nothing for
+/// a file with a fault.
 fn run_constants<S: Source, K: Sink, L: Ledger>(
     alloc: Global,
+    limit: &Option<Limit>,
     rule: &FormRule<'_>,
     watch: &Watch,
     source: &mut S,
     sink: &mut K,
     steps: &mut Steps<L>,
 ) -> Status
-    ensures run { IsWholeRun (IsProduct (IsFormAnswer rule.now.form rule.now.guard.now)) max_limit
+    ensures run { IsWholeRun (IsProduct (IsPlainAnswer (IsRenamedAnswer
+        (IsFormAnswer rule.now.form rule.now.guard.now)))) (whole_limit_of limit.now)
         (outside (S.left source.old) (S.asked source.old) (S.failures source.old)
         (K.written sink.old) (K.failures sink.old) steps.old)
         (outside (S.left source.new) (S.asked source.new) (S.failures source.new)
         (K.written sink.new) (K.failures sink.new) steps.new) result }
     ensures memory { result ≡ Status.NoMemory → sink.new ≡ sink.old }
 {
-    let watched = WatchedWhole { rule, watch };
+    let renamed = RenamedRule { rule };
+    let rule = PlainRule { rule: &renamed };
+    let watched = WatchedWhole { rule: &rule, watch };
     run_whole_rule(
         alloc,
-        MAX_LIMIT,
+        whole_within(limit),
         &Product { rule: &watched },
         source,
         sink,
@@ -334,37 +426,64 @@ fn run_constants<S: Source, K: Sink, L: Ledger>(
     )
 }
 
-/// Answers a whole input of at most 4,294,967,296 bytes with the least format of its numerals.
+/// Answers a whole input within the limit with the least format of its numerals.
 fn run_least<S: Source, K: Sink, L: Ledger>(
     alloc: Global,
-    radix: Radix,
+    limit: &Option<Limit>,
+    rule: &LeastLines,
     watch: &Watch,
     source: &mut S,
     sink: &mut K,
     steps: &mut Steps<L>,
 ) -> Status
-    ensures run { IsWholeRun (least.IsWholeAnswer radix) max_limit
+    ensures run { IsWholeRun (IsLeastWritten rule.now) (whole_limit_of limit.now)
         (outside (S.left source.old) (S.asked source.old) (S.failures source.old)
         (K.written sink.old) (K.failures sink.old) steps.old)
         (outside (S.left source.new) (S.asked source.new) (S.failures source.new)
         (K.written sink.new) (K.failures sink.new) steps.new) result }
     ensures memory { result ≡ Status.NoMemory → sink.new ≡ sink.old }
 {
-    let rule = LeastRule { radix };
-    let watched = WatchedWhole { rule: &rule, watch };
-    run_whole_rule(alloc, MAX_LIMIT, &watched, source, sink, steps)
+    let watched = WatchedWhole { rule, watch };
+    run_whole_rule(alloc, whole_within(limit), &watched, source, sink, steps)
 }
 
-/// Answers lines of cells with the column of them in order, in an input within the limit.
-fn run_cells<S: Source, K: Sink, L: Ledger>(
+/// Answers a whole input within the limit, a list as people write it, with the least format of its numerals.
+fn run_laid_least<S: Source, K: Sink, L: Ledger>(
     alloc: Global,
-    limit: &Limit,
+    limit: &Option<Limit>,
+    least: &LeastLines,
+    layout: &Layout,
     watch: &Watch,
     source: &mut S,
     sink: &mut K,
     steps: &mut Steps<L>,
 ) -> Status
-    ensures run { IsWholeRun columns.IsWholeAnswer limit.now
+    ensures run { IsWholeRun (λ input. IsLeastWritten least.now (laid_out (Some layout.now) input))
+        (whole_limit_of limit.now)
+        (outside (S.left source.old) (S.asked source.old) (S.failures source.old)
+        (K.written sink.old) (K.failures sink.old) steps.old)
+        (outside (S.left source.new) (S.asked source.new) (S.failures source.new)
+        (K.written sink.new) (K.failures sink.new) steps.new) result }
+    ensures memory { result ≡ Status.NoMemory → sink.new ≡ sink.old }
+{
+    let rule = LaidOutList {
+        rule: least,
+        layout,
+    };
+    let watched = WatchedWhole { rule: &rule, watch };
+    run_whole_rule(alloc, whole_within(limit), &watched, source, sink, steps)
+}
+
+/// Answers lines of cells with the column of them in order, in an input within the limit.
+fn run_cells<S: Source, K: Sink, L: Ledger>(
+    alloc: Global,
+    limit: &Option<Limit>,
+    watch: &Watch,
+    source: &mut S,
+    sink: &mut K,
+    steps: &mut Steps<L>,
+) -> Status
+    ensures run { IsWholeRun columns.IsWholeAnswer (whole_limit_of limit.now)
         (outside (S.left source.old) (S.asked source.old) (S.failures source.old)
         (K.written sink.old) (K.failures sink.old) steps.old)
         (outside (S.left source.new) (S.asked source.new) (S.failures source.new)
@@ -375,19 +494,21 @@ fn run_cells<S: Source, K: Sink, L: Ledger>(
         rule: &ColumnsRule,
         watch,
     };
-    run_whole_rule(alloc, limit.bytes(), &watched, source, sink, steps)
+    run_whole_rule(alloc, whole_within(limit), &watched, source, sink, steps)
 }
 
-/// Does a task with an input. What there is to report of the lines that it refuses is kept in the watch.
+/// Does a task with an input within the limit. The watch keeps the reports of refused lines. Without a limit an input
+/// has at most 2^62 bytes, and one that is read whole at most 4,294,967,296.
 pub fn run_task<S: Source, K: Sink, L: Ledger>(
     alloc: Global,
+    limit: &Option<Limit>,
     task: &Task<'_>,
     watch: &Watch,
     source: &mut S,
     sink: &mut K,
     steps: &mut Steps<L>,
 ) -> Status
-    ensures run { TaskRuns task.now
+    ensures run { TaskRuns limit.now task.now
         (outside (S.left source.old) (S.asked source.old) (S.failures source.old)
         (K.written sink.old) (K.failures sink.old) steps.old)
         (outside (S.left source.new) (S.asked source.new) (S.failures source.new)
@@ -395,21 +516,32 @@ pub fn run_task<S: Source, K: Sink, L: Ledger>(
     ensures memory { result ≡ Status.NoMemory → sink.new ≡ sink.old }
 {
     match task {
-        Task::Lines(limit) => run_words(alloc, limit, watch, source, sink, steps),
-        Task::Convert(rule) => run_convert(alloc, rule, watch, source, sink, steps),
-        Task::LaidOut(laid) => run_laid_out(alloc, laid, watch, source, sink, steps),
-        Task::Reported(laid) => run_reported(alloc, laid, watch, source, sink, steps),
-        Task::Enclose => run_enclosures(alloc, watch, source, sink, steps),
+        Task::Lines => run_words(alloc, limit, watch, source, sink, steps),
+        Task::Convert(rule) => run_convert(alloc, limit, rule, watch, source, sink, steps),
+        Task::LaidOut(laid) => run_laid_out(alloc, limit, laid, watch, source, sink, steps),
+        Task::Reported(laid) => run_reported(alloc, limit, laid, watch, source, sink, steps),
+        Task::Errors(lines) => run_errors(alloc, limit, lines, watch, source, sink, steps),
+        Task::Enclose => run_enclosures(alloc, limit, watch, source, sink, steps),
         Task::Ask(form, question) => {
-            run_questions(alloc, *form, *question, watch, source, sink, steps)
+            run_questions(alloc, limit, *form, *question, watch, source, sink, steps)
         }
-        Task::Least(radix) => run_least(alloc, *radix, watch, source, sink, steps),
-        Task::Constants(rule) => run_constants(alloc, rule, watch, source, sink, steps),
-        Task::Columns(limit) => run_cells(alloc, limit, watch, source, sink, steps),
+        Task::LaidOutAsk(form, question, layout) => {
+            let rule = BlockRule {
+                form: *form,
+                question: *question,
+            };
+            run_laid_questions(alloc, limit, rule, layout, watch, source, sink, steps)
+        }
+        Task::Least(rule) => run_least(alloc, limit, rule, watch, source, sink, steps),
+        Task::LaidOutLeast(rule, layout) => {
+            run_laid_least(alloc, limit, rule, layout, watch, source, sink, steps)
+        }
+        Task::Constants(rule) => run_constants(alloc, limit, rule, watch, source, sink, steps),
+        Task::Columns => run_cells(alloc, limit, watch, source, sink, steps),
     }
 }
 
-/// Of two ends the one with the greater code.
+/// Returns the one of two statuses with the greater code.
 pub fn greater_end(one: Status, other: Status) -> Status
     ensures code { code_of result ≡ max (code_of one) (code_of other) }
 {

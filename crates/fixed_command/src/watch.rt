@@ -1,6 +1,5 @@
-//! Rules that keep what there is to report of the lines that they refuse. What they answer is what the rules answer
-//! that they are made of. What is kept of a line is said by contracts; that a cell keeps it no contract can say, and so
-//! it is tested.
+//! Wrappers that answer like the rule inside them and remember the refused lines. Contracts say what is kept of a line.
+//! They cannot describe the contents of a `Cell`; tests do.
 
 ghost use Rattle.std.specs.Prelude.{◌≡◌, ◌==◌, ◌+◌, ◌*◌, ◌^◌, ◌<◌, ◌≤◌, List, None, ℕ, length, take};
 ghost use Rattle.fixed_command.specs.Outcome.{one_more};
@@ -11,6 +10,7 @@ ghost use Rattle.fixed_respell.specs.Language.{fault_answer};
 
 use crate::blocks::first_bytes;
 use crate::convert::{ConvertRule, without_return};
+use crate::error_lines::ErrorLines;
 use crate::layout::LaidOutRule;
 use crate::line_blocks::BlockRule;
 use crate::named_line::{line_and_message, line_at};
@@ -18,7 +18,7 @@ use crate::outcome::{Outcome, Tally, has_error, one_more, outcome_of};
 use fixed_enclose::append_answer as append_enclosure;
 use fixed_report::ErrorReport;
 use fixed_respell::append_answer;
-use fixed_show::{Form, MAX_OBJECT};
+use fixed_show::{Form, MAX_ERROR, MAX_OBJECT};
 use fixed_steps::Steps;
 use line_engine::{LineRule, MAX_ANSWER, NoMemory, Output, WholeAnswer, WholeRule};
 use memchr::memrchr;
@@ -30,19 +30,19 @@ use text_buffer::TextBuffer;
 /// How many bytes of a line, and of the cause of its refusal, are kept.
 const KEPT: usize = 160;
 
-/// A line that is refused.
+/// A refused line.
 #[derive(Drop)]
 pub struct RefusedLine {
     /// Its number, from 1.
     pub number: u64,
     /// Its first bytes.
     pub text: TextBuffer<KEPT>,
-    /// Why it is refused.
+    /// The cause of its refusal.
     pub cause: TextBuffer<KEPT>,
 }
 
 impl RefusedLine {
-    /// The line of this number, whose text and cause are cut.
+    /// Returns the line with this number, with text and cause cut.
     pub fn new(number: u64, text: &[u8], cause: &[u8]) -> RefusedLine
         ensures { result ≡ record {
           number = number;
@@ -65,7 +65,7 @@ impl RefusedLine {
     }
 }
 
-/// The bytes, cut where they are longer than what is kept.
+/// Returns the bytes, cut to the kept length.
 fn kept(bytes: &[u8]) -> TextBuffer<KEPT>
     ensures { result ≡ take kept_bytes bytes.now }
 {
@@ -74,7 +74,7 @@ fn kept(bytes: &[u8]) -> TextBuffer<KEPT>
     text
 }
 
-/// What follows `error: ` in an answer; the whole of one that begins otherwise.
+/// Returns the text after `error: ` in an answer, or the whole answer if it begins otherwise.
 fn cause_of(answer: &[u8]) -> &[u8]
     ensures { (message : List ℕ) → answer.now ≡ (fault_answer message).text → result.now ≡ message }
 {
@@ -84,17 +84,17 @@ fn cause_of(answer: &[u8]) -> &[u8]
     }
 }
 
-/// The lines of an input that are refused: how many, and the first.
+/// The refused lines of an input: their count, and the first.
 #[derive(Drop)]
 pub struct Refusals {
-    /// How many.
+    /// How many lines.
     pub count: u64,
-    /// The first, where there is one.
+    /// The first, if there is one.
     pub first: Option<RefusedLine>,
 }
 
 impl Refusals {
-    /// No line is refused.
+    /// Returns no refused lines.
     pub fn new() -> Refusals
         ensures count { result.count ≡ 0 }
         ensures first { result.first ≡ None }
@@ -105,7 +105,7 @@ impl Refusals {
         }
     }
 
-    /// An input is refused with this answer, for the line and the cause that it names.
+    /// Returns the refusal of an input with this answer, by the line and the cause that the answer names.
     pub fn of_input(input: &[u8], answer: &[u8]) -> Refusals
         ensures count { result.count ≡ 1 }
         ensures first { (number : ℕ) (message : List ℕ) → number < 2 ^ 64 → answer.now ≡ refusal_text number message
@@ -118,7 +118,8 @@ impl Refusals {
         }
     }
 
-    /// A line of this number is refused with this answer: the first is kept, and the cause that its answer names.
+    /// Notes that the line with this number is refused with this answer. Keeps the first one, with the cause in its
+    /// answer.
     pub fn note(&mut self, number: u64, line: &[u8], answer: &[u8])
         ensures count { self.new.count ≡ one_more self.old.count }
         ensures first { (message : List ℕ) → answer.now ≡ (fault_answer message).text
@@ -131,8 +132,8 @@ impl Refusals {
     }
 }
 
-/// What is known of the lines of an input: how many there were, which were refused, and where that is asked how their
-/// numerals came through, and which has the greatest error.
+/// What is known about the lines of an input: their count, the refused lines, and, if requested, the outcomes of their
+/// numerals and the greatest error.
 #[derive(Drop)]
 pub struct Watch {
     lines: Cell<u64>,
@@ -142,7 +143,7 @@ pub struct Watch {
 }
 
 impl Watch {
-    /// No line was seen.
+    /// Returns a watch that has seen no line.
     pub fn new() -> Watch {
         Watch {
             lines: Cell::new(0),
@@ -152,29 +153,29 @@ impl Watch {
         }
     }
 
-    /// No line was seen, of which the greatest error is to be kept.
+    /// Returns a watch that has seen no line and keeps the greatest error.
     pub fn of_errors(errors: ErrorReport) -> Watch {
         let watch = Watch::new();
         watch.errors.set(Some(errors));
         watch
     }
 
-    /// The lines that were refused.
+    /// Takes the refused lines.
     pub fn refusals(&self) -> Refusals {
         self.refusals.replace(Refusals::new())
     }
 
-    /// How the numerals came through.
+    /// Returns the outcomes of the numerals.
     pub fn tally(&self) -> Tally {
         self.tally.get()
     }
 
-    /// What is kept of the greatest error, where it is.
+    /// Takes what is kept of the greatest error, if anything.
     pub fn errors(&self) -> Option<ErrorReport> {
         self.errors.replace(None)
     }
 
-    /// What another watch knows, which it keeps no longer.
+    /// Takes what another watch knows. The other loses its refused lines and greatest error.
     pub fn take(&self, other: &Watch) {
         self.lines.set(other.lines.get());
         self.refusals.set(other.refusals());
@@ -182,14 +183,19 @@ impl Watch {
         self.errors.set(other.errors());
     }
 
-    /// A line is to be answered: where its answer begins.
+    /// Counts a line before it is answered. Returns the index at which its answer begins.
     #[inline]
     fn begin(&self, out: &Output) -> usize {
-        self.lines.set(self.lines.get().wrapping_add(1));
+        self.pass();
         out.len()
     }
 
-    /// A line was answered, from this place on.
+    /// Counts a line that is passed over.
+    pub(crate) fn pass(&self) {
+        self.lines.set(self.lines.get().wrapping_add(1));
+    }
+
+    /// Notes the answer to a line, which begins at `start`.
     #[inline]
     fn end(&self, line: &[u8], out: &Output, start: usize, is_fault: bool) {
         if is_fault {
@@ -197,7 +203,7 @@ impl Watch {
         }
     }
 
-    /// The last line that is counted is refused with this answer.
+    /// Notes that the last counted line is refused with this answer.
     #[inline(never)]
     fn refuse(&self, line: &[u8], answer: &[u8]) {
         let mut refusals = self.refusals();
@@ -205,14 +211,14 @@ impl Watch {
         self.refusals.set(refusals);
     }
 
-    /// The numeral of the last line that is counted came through so.
+    /// Notes the outcome of the numeral of the last counted line.
     fn note(&self, outcome: Outcome) {
         let mut tally = self.tally.get();
         tally.note(self.lines.get(), outcome);
         self.tally.set(tally);
     }
 
-    /// The numeral of the last line that is counted has an error.
+    /// Notes that the numeral of the last counted line has an error.
     fn note_error<L: Ledger>(&self, numeral: &[u8], steps: &mut Steps<L>)
         ensures cost { steps.new ≤ steps.old + add_per_byte * length numeral.now + add_extra }
     {
@@ -222,55 +228,76 @@ impl Watch {
         }
     }
 
-    /// An input is refused with this answer.
+    /// Notes that an input is refused with this answer.
     fn refuse_input(&self, input: &[u8], answer: &[u8]) {
         self.refusals.set(Refusals::of_input(input, answer));
     }
 }
 
-/// The rule of lines, whose refusals are watched.
+/// A rule with a watch over its refusals.
+pub trait Watched {
+    /// Returns what is known about the lines.
+    fn watch(&self) -> &Watch;
+}
+
+impl Watched for WatchedBlocks {
+    fn watch(&self) -> &Watch {
+        &self.watch
+    }
+}
+
+/// The rule of lines, with a watch over its refusals.
 #[derive(Drop)]
 pub struct WatchedLines {
-    /// What is known of the lines.
+    /// What is known about the lines.
     pub watch: Watch,
 }
 
-/// The rule of enclosures, whose refusals are watched.
+/// The rule of enclosures, with a watch over its refusals.
 #[derive(Drop)]
 pub struct WatchedEnclosures {
-    /// What is known of the lines.
+    /// What is known about the lines.
     pub watch: Watch,
 }
 
-/// The rule of a conversion, whose refusals are watched.
+/// The rule of a conversion, with a watch over its refusals.
 #[derive(Drop)]
 pub struct WatchedNumerals {
     /// The rule.
     pub rule: ConvertRule,
-    /// What is known of the lines.
+    /// What is known about the lines.
     pub watch: Watch,
 }
 
-/// The rule of a conversion of lines as people have them, whose refusals are watched.
+/// The rule of a conversion of lines as people write them, with a watch over its refusals.
 #[derive(Drop)]
 pub struct WatchedLaidOut {
     /// The rule.
     pub laid: LaidOutRule,
-    /// What is known of the lines.
+    /// What is known about the lines.
     pub watch: Watch,
 }
 
-/// The rule of a report: it is watched too how each numeral comes through, and which has the greatest error.
+/// The rule of errors of numerals, with a watch over its refusals.
+#[derive(Drop)]
+pub struct WatchedErrors {
+    /// The rule.
+    pub lines: ErrorLines,
+    /// What is known about the lines.
+    pub watch: Watch,
+}
+
+/// The rule of a report, with a watch also over the outcomes and the greatest error.
 #[derive(Drop)]
 pub struct ReportedLaidOut {
     /// The rule.
     pub laid: LaidOutRule,
-    /// What is known of the lines.
+    /// What is known about the lines.
     pub watch: Watch,
 }
 
 impl ReportedLaidOut {
-    /// Notes how the numeral of a line came through that was answered, by a fault or not.
+    /// Notes the outcome of the numeral of an answered line. `is_fault`: the answer was a fault.
     fn note<L: Ledger>(&self, line: &[u8], is_fault: bool, steps: &mut Steps<L>)
         ensures cost { steps.new ≤ steps.old + (16 * length line.now + 704)
             + (add_per_byte * length line.now + add_extra) }
@@ -290,23 +317,23 @@ impl ReportedLaidOut {
     }
 }
 
-/// The rule of questions about lines, whose refusals are watched.
+/// The rule of questions about lines, with a watch over its refusals.
 #[derive(Drop)]
 pub struct WatchedBlocks {
     /// The rule.
     pub rule: BlockRule,
-    /// What is known of the lines.
+    /// What is known about the lines.
     pub watch: Watch,
 }
 
-/// What follows the first line of a block, without the newline at its end.
+/// Returns the part of a block after its first line, without the newline at its end.
 fn below_head(block: &[u8]) -> &[u8] {
     let end = block.iter().position(|byte| *byte == b'\n').unwrap_or(0);
     let rest = block.get(end.saturating_add(1)..).unwrap_or(&[]);
     rest.strip_suffix(b"\n").unwrap_or(rest)
 }
 
-/// The last text of an object, which is why its word is refused.
+/// Returns the last text of an object, which is why its word is refused.
 fn last_text(object: &[u8]) -> &[u8] {
     let texts = object.strip_suffix(b"\"}").unwrap_or(object);
     match memrchr(b'"', texts) {
@@ -458,6 +485,42 @@ impl<L: Ledger> LineRule<L> for WatchedLaidOut {
         (reply_one watched.laid.rule) };
 }
 
+impl<L: Ledger> LineRule<L> for WatchedErrors {
+    ghost use Rattle.std.proofs.Common.{lit<};
+    ghost use Rattle.fixed_command.specs.Errors.{IsErrorLine, IsErrorReply};
+    ghost use Rattle.fixed_command.specs.Lemmas.ErrorLemmas.{error_reply_one};
+    ghost use Rattle.fixed_command.specs.Lemmas.LayoutLemmas.{laid_out_one, long_by_its_prefix};
+
+    const PER_BYTE: u64 = 11;
+
+    const EXTRA: u64 = 1565;
+
+    const MAX_ANSWER: usize = MAX_ERROR;
+
+    ghost PER_BYTE = { 11 };
+
+    ghost EXTRA = { 1565 };
+
+    ghost MAX_ANSWER = { 1380 };
+
+    ghost Answers = { λ watched. IsErrorLine watched.lines };
+
+    fn answer(&self, line: &[u8], out: &mut Output, steps: &mut Steps<L>) -> bool {
+        let start = self.watch.begin(out);
+        let is_fault = self.lines.answer(line, out, steps);
+        self.watch.end(without_return(line), out, start, is_fault);
+        is_fault
+    }
+
+    ghost room_law = { lit< tt };
+
+    ghost one_law = { λ watched. laid_out_one watched.lines.layout (IsErrorReply watched.lines.settings)
+        (error_reply_one watched.lines.settings) };
+
+    ghost kept_law = { λ watched. long_by_its_prefix watched.lines.layout (IsErrorReply watched.lines.settings)
+        (error_reply_one watched.lines.settings) };
+}
+
 impl<L: Ledger> LineRule<L> for ReportedLaidOut {
     ghost use Rattle.std.proofs.Common.{lit<};
     ghost use Rattle.fixed_command.specs.Convert.{IsReply};
@@ -530,12 +593,12 @@ impl<L: Ledger> LineRule<L> for WatchedEnclosures {
     ghost kept_law = { λ watched. long_by_its_prefix };
 }
 
-/// A rule of whole inputs whose refusals are watched.
+/// A rule of whole inputs, with a watch over its refusals.
 #[derive(Clone, Copy)]
 pub struct WatchedWhole<'w, R> {
     /// The rule.
     pub rule: &'w R,
-    /// What is known of the lines.
+    /// What is known about the lines.
     pub watch: &'w Watch,
 }
 
@@ -558,7 +621,7 @@ impl<'w, R: WholeRule<L>, L: Ledger> WholeRule<L> for WatchedWhole<'w, R> {
     ghost one_law = { λ watched. R.one_law watched.rule.now };
 }
 
-/// A rule whose answer is one product: of an input that is refused nothing is written.
+/// A rule whose answer is one product. Nothing is written for a refused input.
 #[derive(Clone, Copy)]
 pub struct Product<'w, R> {
     /// The rule.

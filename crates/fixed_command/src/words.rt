@@ -1,4 +1,4 @@
-//! The words of the line that asks for a conversion, and of the options that name them.
+//! The words in the line that requests a conversion, and in the options that name them.
 
 ghost use Rattle.std.specs.Prelude.{◌≡◌, ◌≤◌, MatchOption, length, option_map};
 ghost use Rattle.fixed_bits.specs.declared.format.Policy.{Policy};
@@ -14,7 +14,7 @@ use crate::spelling::Spelling;
 use fixed_bits::{Policy, ReadMode};
 use fixed_numeral::Radix;
 
-/// The word of a radix.
+/// Returns the word of a radix.
 pub fn radix_name(radix: Radix) -> &'static str
     ensures name { result.now ≡ radix_text radix }
     ensures short { length result.now ≤ 2 }
@@ -27,7 +27,7 @@ pub fn radix_name(radix: Radix) -> &'static str
     }
 }
 
-/// The word of a policy.
+/// Returns the word of a policy.
 pub fn policy_name(policy: Policy) -> &'static str
     ensures name { result.now ≡ policy_text policy }
     ensures short { length result.now ≤ 10 }
@@ -40,7 +40,7 @@ pub fn policy_name(policy: Policy) -> &'static str
     }
 }
 
-/// The word of a mode.
+/// Returns the word of a mode.
 pub fn mode_name(mode: ReadMode) -> &'static str
     ensures name { result.now ≡ mode_text mode }
     ensures short { length result.now ≤ 9 }
@@ -58,7 +58,7 @@ pub fn mode_name(mode: ReadMode) -> &'static str
     }
 }
 
-/// The radix that the value of an option names.
+/// Returns the radix that the value of an option names.
 fn radix_of_word(word: &str) -> Option<Radix>
     ensures { MatchOption result ((a : Radix) → ¬ (word.now ≡ radix_text a)) (λ a. word.now ≡ radix_text a) }
 {
@@ -71,8 +71,7 @@ fn radix_of_word(word: &str) -> Option<Radix>
     }
 }
 
-/// The radix that the value of an option names. `10` is meant where the option is left out. `None` where the value
-/// names none.
+/// Returns the radix that the value of an option names, `10` without the option. `None`: the value names none.
 pub fn radix_named(value: Option<&str>) -> Option<Radix>
     ensures { MatchOption result
         ((a : Radix) → ¬ IsNamed Radix radix_text Radix.Dec (option_map (λ w. w.now) value.entry) a)
@@ -84,7 +83,7 @@ pub fn radix_named(value: Option<&str>) -> Option<Radix>
     }
 }
 
-/// The policy that the value of an option names.
+/// Returns the policy that the value of an option names.
 fn policy_of_word(word: &str) -> Option<Policy>
     ensures { MatchOption result ((a : Policy) → ¬ (word.now ≡ policy_text a)) (λ a. word.now ≡ policy_text a) }
 {
@@ -97,8 +96,7 @@ fn policy_of_word(word: &str) -> Option<Policy>
     }
 }
 
-/// The policy that the value of an option names. `checked` is meant where the option is left out. `None` where the
-/// value names none.
+/// Returns the policy that the value of an option names, `checked` without the option. `None`: the value names none.
 pub fn policy_named(value: Option<&str>) -> Option<Policy>
     ensures { MatchOption result
         ((a : Policy) → ¬ IsNamed Policy policy_text Policy.Checked (option_map (λ w. w.now) value.entry) a)
@@ -110,7 +108,7 @@ pub fn policy_named(value: Option<&str>) -> Option<Policy>
     }
 }
 
-/// The mode that the value of an option names.
+/// Returns the mode that the value of an option names.
 fn mode_of_word(word: &str) -> Option<ReadMode>
     ensures { MatchOption result ((a : ReadMode) → ¬ (word.now ≡ mode_text a)) (λ a. word.now ≡ mode_text a) }
 {
@@ -128,8 +126,7 @@ fn mode_of_word(word: &str) -> Option<ReadMode>
     }
 }
 
-/// The mode that the value of an option names. `nearest` is meant where the option is left out. `None` where the
-/// value names none.
+/// Returns the mode that the value of an option names, `nearest` without the option. `None`: the value names none.
 pub fn mode_named(value: Option<&str>) -> Option<ReadMode>
     ensures { MatchOption result
         ((a : ReadMode) → ¬ IsNamed ReadMode mode_text ReadMode.NearestEven (option_map (λ w. w.now) value.entry) a)
@@ -141,7 +138,7 @@ pub fn mode_named(value: Option<&str>) -> Option<ReadMode>
     }
 }
 
-/// The part of an answer that the value of an option names.
+/// Returns the part of an answer that the value of an option names.
 fn print_of_word(word: &str) -> Option<Print>
     ensures { MatchOption result ((a : Print) → ¬ IsPrintWord word.now a) (λ a. IsPrintWord word.now a) }
 {
@@ -156,8 +153,8 @@ fn print_of_word(word: &str) -> Option<Print>
     }
 }
 
-/// The part of an answer that the value of an option names. `text` is meant where the option is left out. `None`
-/// where the value names none.
+/// Returns the part of an answer that the value of an option names, `text` without the option. `None`: the value names
+/// none.
 pub fn print_named(value: Option<&str>) -> Option<Print>
     ensures { MatchOption result ((a : Print) → ¬ IsPrintNamed (option_map (λ w. w.now) value.entry) a)
         (λ a. IsPrintNamed (option_map (λ w. w.now) value.entry) a) }
@@ -168,7 +165,7 @@ pub fn print_named(value: Option<&str>) -> Option<Print>
     }
 }
 
-/// How the value of an option says that a line spells a number.
+/// Returns how a line spells a number, by the value of an option.
 fn spelling_of_word(word: &str) -> Option<Spelling>
     ensures { MatchOption result ((a : Spelling) → ¬ (word.now ≡ spelling_text a)) (λ a. word.now ≡ spelling_text a) }
 {
@@ -179,8 +176,8 @@ fn spelling_of_word(word: &str) -> Option<Spelling>
     }
 }
 
-/// How the value of an option says that a line spells a number. `text` is meant where the option is left out. `None`
-/// where the value names none.
+/// Returns how a line spells a number, by the value of an option, `text` without the option. `None`: the value names no
+/// spelling.
 pub fn spelling_named(value: Option<&str>) -> Option<Spelling>
     ensures { MatchOption result
         ((a : Spelling) → ¬ IsNamed Spelling spelling_text Spelling.Numeral (option_map (λ w. w.now) value.entry) a)
@@ -192,8 +189,8 @@ pub fn spelling_named(value: Option<&str>) -> Option<Spelling>
     }
 }
 
-/// The mode that the value of an option names for the way to the target. `floor` is meant where the option is left out.
-/// `None` where the value names none.
+/// Returns the mode that the value of an option names for moving to the target, `floor` without the option. `None`: the
+/// value names none.
 pub fn target_mode_named(value: Option<&str>) -> Option<ReadMode>
     ensures { MatchOption result
         ((a : ReadMode) → ¬ IsNamed ReadMode mode_text ReadMode.Floor (option_map (λ w. w.now) value.entry) a)

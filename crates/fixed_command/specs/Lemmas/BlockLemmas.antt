@@ -3,8 +3,9 @@ use Rattle.std.proofs.Common.{◌≡◌, ◌∙◌, ◌↔◌, ◌<◌, ◌≤�
 use Rattle.std.proofs.Common.{codes, length, nat_lt, take}
 use Rattle.std.proofs.Common.{sym, ap, subst, arith, inl, inr, length-take, take-take}
 use Rattle.std.proofs.lemmas.Bool.{lt-ltb}
+use Rattle.fixed_amounts.proofs.Public.{amount_block_one, amount_object_one, decimal_name_one}
 use Rattle.fixed_bits.specs.Formats.{FormatParts}
-use Rattle.fixed_respell.proofs.Public.{name_one}
+use Rattle.fixed_names.proofs.Public.{name_one}
 use Rattle.fixed_respell.specs.LineWords.{longest_line}
 use Rattle.fixed_show.proofs.Public.{bits_block_one, format_block_one, part_block_one, show_block_one}
 use Rattle.fixed_show.proofs.Public.{bits_object_one, format_object_one, part_object_one, show_object_one}
@@ -14,11 +15,12 @@ use Rattle.fixed_show.specs.declared.form.Form.{Form}
 use Rattle.fixed_show.specs.declared.form.Form.TheVariants.{Lines, Members}
 use Rattle.line_engine.specs.AnswerText.{AnswerText}
 use Rattle.line_engine.specs.Lines.{kept_length}
-use Rattle.fixed_command.specs.Blocks.{IsAnswered, IsBlock, IsFormatAnswer, IsFormatText, IsHeaded, IsObject, head_line}
+use Rattle.fixed_command.specs.Blocks.{IsAnswered, IsBlock, IsDecimalAnswer, IsFormatAnswer, IsFormatText, IsHeaded}
+use Rattle.fixed_command.specs.Blocks.{IsObject, decimal_format_answer, head_line}
 use Rattle.fixed_command.specs.Convert.{without_return}
 use Rattle.fixed_command.specs.LineBlocks.{HasFormat, IsAnswerOf, IsLineBlock, LineBlockIsTheOne, long_answer}
 use Rattle.fixed_command.specs.declared.blocks.Question.{Question}
-use Rattle.fixed_command.specs.declared.blocks.Question.TheVariants.{Bits, Format, Part, Show}
+use Rattle.fixed_command.specs.declared.blocks.Question.TheVariants.{Amount, Bits, Format, Part, Show}
 
 abbrev reply_of : List ℕ → Bool → AnswerText
 reply_of t o = record { text = t; fault = o }
@@ -32,6 +34,15 @@ text_one : (form : Form) (word : List ℕ) (f : FormatParts) (a b : List ℕ) �
 text_one Lines word f a b x y = format_block_one f a b x y
 text_one Members word f a b x y = format_object_one word f a b x y
 
+decimal_one : (form : Form) (word : List ℕ) (a b : AnswerText) → IsDecimalAnswer form word a
+    → IsDecimalAnswer form word b → a ≡ b
+decimal_one form word a b (inl x) (inl y) =
+    let places : x.places ≡ y.places = decimal_name_one word x.places y.places x.word_is y.word_is in
+    x.answer_is ∙ ap (λ n. reply_of (decimal_format_answer form word n) false) places ∙ sym y.answer_is
+decimal_one form word a b (inl x) (inr y) = absurd (y.none x.places x.word_is)
+decimal_one form word a b (inr x) (inl y) = absurd (x.none y.places y.word_is)
+decimal_one form word a b (inr x) (inr y) = x.answer_is ∙ sym y.answer_is
+
 format_one : (form : Form) (word : List ℕ) (a b : AnswerText) → IsFormatAnswer form word a → IsFormatAnswer form word b
     → a ≡ b
 format_one form word a b (inl x) (inl y) =
@@ -41,7 +52,7 @@ format_one form word a b (inl x) (inl y) =
     alike a b (x.clean ∙ sym y.clean) text
 format_one form word a b (inl x) (inr y) = absurd (y.none x.format x.word_is)
 format_one form word a b (inr x) (inl y) = absurd (x.none y.format y.word_is)
-format_one form word a b (inr x) (inr y) = x.answer_is ∙ sym y.answer_is
+format_one form word a b (inr x) (inr y) = decimal_one form word a b x.decimal y.decimal
 
 -- the block of a word
 block_one : (q : Question) (word : List ℕ) (a b : AnswerText) → HasFormat q → IsBlock q word a → IsBlock q word b
@@ -54,6 +65,9 @@ block_one (Bits r f) word a b valid x y =
     alike a b same.0 same.1
 block_one (Part r part f) word a b valid x y =
     let same = part_block_one r part f word a.fault b.fault a.text b.text valid.is_width x y in
+    alike a b same.0 same.1
+block_one (Amount question) word a b valid x y =
+    let same = amount_block_one question word a.fault b.fault a.text b.text x y in
     alike a b same.0 same.1
 block_one Format word a b valid x y = format_one Lines word a b x y
 
@@ -68,6 +82,9 @@ object_one (Bits r f) word a b valid x y =
     alike a b same.0 same.1
 object_one (Part r part f) word a b valid x y =
     let same = part_object_one r part f word a.fault b.fault a.text b.text valid.is_width x y in
+    alike a b same.0 same.1
+object_one (Amount question) word a b valid x y =
+    let same = amount_object_one question word a.fault b.fault a.text b.text x y in
     alike a b same.0 same.1
 object_one Format word a b valid x y = format_one Members word a b x y
 
@@ -93,7 +110,7 @@ of_one false form q line a b x y = answered_one form q (without_return line) a b
 pub line_block_one : LineBlockIsTheOne
 line_block_one form q line a b x y = of_one (nat_lt longest_line (length line)) form q line a b x y
 
--- a line that is too long is answered by its first bytes
+-- the first bytes of a line that is too long determine its answer
 long_is : (form : Form) (q : Question) (line : List ℕ) (answer : AnswerText) → longest_line < length line
     → IsLineBlock form q line answer ↔ (answer ≡ long_answer form line)
 long_is form q line answer long =

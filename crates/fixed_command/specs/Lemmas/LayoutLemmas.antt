@@ -1,4 +1,4 @@
--- A line has one reply, whatever it has beside its numeral.
+-- A line has one reply, whatever it has besides its numeral.
 use Rattle.std.proofs.Common.{◌≡◌, ◌∙◌, ◌↔◌, ◌<◌, ℕ, List, Bool, true, false, length, take, nat_lt, refl, sym}
 use Rattle.std.proofs.Common.{subst, arith}
 use Rattle.std.proofs.lemmas.Bool.{lt-ltb}

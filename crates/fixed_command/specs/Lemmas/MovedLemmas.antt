@@ -71,7 +71,7 @@ source_by Word s line v w o u formats a b = (
   a.1 ∙ sym b.1,
 )
 
--- ---- and why there is none
+-- ---- the cause if there is none
 pub unread_one : (mode : ReadMode) (r : Radix) (bytes : List ℕ) (f : FormatParts) (policy : Policy)
     (k l : ParseErrorKind) → IsUnread mode r bytes f policy k → IsUnread mode r bytes f policy l → k ≡ l
 unread_one mode r bytes f policy k l (inl a) (inl b) = one_cause r bytes k l a b
@@ -103,8 +103,8 @@ pub source_or_not : (spelling : Spelling) (s : Settings) (line m : List ℕ) (v 
 source_or_not Numeral s line m v o a b = read_or_not s.mode s.radix line s.source s.policy v o b.0 a b.1
 source_or_not Word s line m v o a b = word_has_no_fault s.radix s.source line b.0 v b.1 a.0
 
--- ---- where it is moved to
-moved_same : (mode : ReadMode) (b : ℤ) (f g : ℕ) (v w : ℤ) → IsMovedIn mode b f g v → IsMovedIn mode b f g w → v ≡ w
+-- ---- the bits after the move
+pub moved_same : (mode : ReadMode) (b : ℤ) (f g : ℕ) (v w : ℤ) → IsMovedIn mode b f g v → IsMovedIn mode b f g w → v ≡ w
 moved_same mode b f g v w x y =
     let same : x.ulps ≡ y.ulps = rounded_unique mode (is_negative b) (unsigned_abs b * 2 ^ g) (2 ^ f) x.ulps y.ulps
     (pow_pos f) x.rounded y.rounded in

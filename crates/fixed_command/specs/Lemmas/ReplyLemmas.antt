@@ -1,4 +1,4 @@
--- A numeral has one reply, and a line that is too long is replied to like its prefix.
+-- A numeral has one reply, and a line that is too long has the reply to its prefix.
 use Rattle.std.proofs.Common.{◌≡◌, ℕ, suc, ◌+◌, ◌-◌, ◌^◌, ◌<◌, ◌≤◌, List, [], ◌∷◌, ◌++◌, Bool, true, false}
 use Rattle.std.proofs.Common.{length, take, get_or, ℤ, pos, negsuc, refl, sym, ap, ◌∙◌, subst, arith, inl, inr, ◌↔◌}
 use Rattle.std.proofs.Common.{length-append, length-take, if◌then◌else◌, ◌==◌, ◌⊎◌, true≢false}

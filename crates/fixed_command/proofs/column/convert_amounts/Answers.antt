@@ -1,5 +1,4 @@
 use Rattle.std.proofs.Common.{◌≡◌, ◌∙◌, ap}
-use Rattle.column_engine.specs.declared.columns.Keeping.{Keeping}
 use Rattle.fixed_command.specs.Fields.{has_amount_point, kept_of}
 use Rattle.fixed_command.proofs.column.convert_amounts.Goals as goal
 

@@ -1,5 +1,4 @@
-use Rattle.std.proofs.Common.{◌≡◌, ◌∙◌, ◌+◌, ℕ, sym, arith, drop, get_or, true, false}
-use Rattle.fixed_command.specs.Fields.{digits_of}
+use Rattle.std.proofs.Common.{◌∙◌, sym, arith}
 use Rattle.fixed_command.proofs.FieldLemmas.{last_digit, no_digits, one_digit}
 use Rattle.fixed_command.proofs.field.digits_of.Goals as goal
 

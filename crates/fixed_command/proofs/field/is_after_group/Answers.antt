@@ -1,4 +1,4 @@
-use Rattle.std.proofs.Common.{◌≡◌, ◌∙◌, ◌==◌, ◌+◌, ◌-◌, ℕ, sym, ap, arith, drop, length, ne_eqb, not, refl, true, false}
+use Rattle.std.proofs.Common.{◌≡◌, ◌∙◌, ◌==◌, ◌-◌, sym, ap, arith, drop, length, ne_eqb, not, refl, true, false}
 use Rattle.fixed_command.specs.Fields.{digits_of}
 use Rattle.fixed_command.proofs.FieldLemmas.{group_more, group_other, groups_ended, groups_over, starts}
 use Rattle.fixed_command.proofs.field.is_after_group.Goals as goal

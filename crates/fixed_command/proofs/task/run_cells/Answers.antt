@@ -9,4 +9,4 @@ column : (limit bytes : ℕ) (before after : Outside) (status : Status) → byte
 column limit bytes before after status same runs = subst (λ n. IsWholeRun IsWholeAnswer n before after status) same runs
 
 pub returns-clause-run : goal.returns-clause-run
-returns-clause-run g c = column _ _ _ _ _ c.bytes.ensures.value c.run_whole_rule.ensures.run
+returns-clause-run g c = column _ _ _ _ _ c.whole_within.ensures.value c.run_whole_rule.ensures.run

@@ -26,3 +26,12 @@ returns-in-Reported-clause-run g c = rw c.in-Reported.is c.run_reported.ensures.
 
 pub returns-in-Ask-clause-run : goal.returns-in-Ask-clause-run
 returns-in-Ask-clause-run g c = rw c.in-Ask.is c.run_questions.ensures.run
+
+pub returns-in-Errors-clause-run : goal.returns-in-Errors-clause-run
+returns-in-Errors-clause-run g c = rw c.in-Errors.is c.run_errors.ensures.run
+
+pub returns-in-LaidOutAsk-clause-run : goal.returns-in-LaidOutAsk-clause-run
+returns-in-LaidOutAsk-clause-run g c = rw c.in-LaidOutAsk.is c.run_laid_questions.ensures.run
+
+pub returns-in-LaidOutLeast-clause-run : goal.returns-in-LaidOutLeast-clause-run
+returns-in-LaidOutLeast-clause-run g c = rw c.in-LaidOutLeast.is c.run_laid_least.ensures.run

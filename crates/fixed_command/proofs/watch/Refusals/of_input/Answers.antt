@@ -4,7 +4,7 @@ use Rattle.fixed_command.specs.Watched.{kept_bytes, line_at}
 use Rattle.fixed_command.specs.declared.watch.RefusedLine.{RefusedLine}
 use Rattle.fixed_command.proofs.watch.Refusals.of_input.Goals as goal
 
--- what is kept of a line and a message
+-- the kept parts of a refused line and its message
 refused : ℕ → List ℕ → List ℕ → RefusedLine
 refused number line message = record { number = number; text = take kept_bytes line; cause = take kept_bytes message }
 
