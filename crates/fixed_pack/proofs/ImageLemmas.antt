@@ -1,4 +1,4 @@
--- A word whose source is its target: its bits are their own image.
+-- The bits of a word are their own image if source and target are one format.
 use Rattle.std.proofs.Common.{◌≡◌, ◌==◌, ◌&&◌, ◌∙◌, ◌^◌, ◌≤◌, ◌++◌, ℕ, ℤ, Bool, true, false, unsigned_abs, List, length, refl, sym, ap, subst, arith, length-append}
 use Rattle.std.specs.Bool.{beq}
 use Rattle.std.specs.Cmp.{booleans_Decides}
@@ -21,7 +21,7 @@ use Rattle.fixed_command.specs.Printed.{printed}
 use Rattle.fixed_command.specs.declared.print.Print.TheVariants.{Text}
 use Rattle.fixed_respell.specs.Answer.{respelled_answer}
 
--- ---- formats that `==` does not tell apart are one
+-- ---- formats that `==` does not tell apart are equal
 pub same_format : (f g : FormatParts) → (beq f.signed g.signed && ((f.width == g.width) && (f.frac == g.frac))) ≡ true → f ≡ g
 same_format f g is =
     let outer = and_parts (beq f.signed g.signed) ((f.width == g.width) && (f.frac == g.frac)) is in
@@ -31,7 +31,7 @@ same_format f g is =
     ∙ (ap (λ w. F g.signed w f.frac) ((Decides-eqb f.width g.width).0 inner.0) ∙ ap (λ k. F g.signed g.width k) ((Decides-eqb f.frac g.frac).0 inner.1))
 
 -- ---- bits of a format are their own image in it
--- in the range that a policy leaves, where it is not Symmetric or Symmetric leaves the number in
+-- a number in range is in the range that the policy leaves, if the policy is not Symmetric or Symmetric leaves it in
 pub range_by : (p : Policy) (s : Bool) (n : ℕ) (v : ℤ) → IsInRange s n v → (p ≡ Symmetric → IsInRangeBy Symmetric s n v) → IsInRangeBy p s n v
 range_by Checked s n v i symmetric = record { low = i.low; high = i.high }
 range_by Saturating s n v i symmetric = record { low = i.low; high = i.high }
@@ -50,7 +50,7 @@ own_image m policy f b format range = record {
   verdict = (λ t. absurd (false≢true t), λ out. absurd ((policy_range_decided policy f.signed f.width b).1 out range));
 }
 
--- and so their text is what is pushed of them
+-- the text of such bits is pushed as it is
 pub own_text : (s : Settings) (bits : ℤ) (frac : ℕ) (text old new : List ℕ) → s.source ≡ s.target → ¬ (s.policy ≡ Symmetric) → frac ≡ s.target.frac → IsFormat s.source.width s.source.frac → s.print ≡ Text → IsInRange s.source.signed s.source.width bits
     → IsShortestText bits frac text → length text ≤ 48 → new ≡ old ++ text → HasPushedImage s bits false old new
 own_text s bits frac text old new same other is_frac source print range shortest short out = record {

@@ -1,3 +1,5 @@
+mod AmountLemmas
+mod BitsLemmas
 mod FloatLemmas
 mod ImageLemmas
 mod LawLemmas

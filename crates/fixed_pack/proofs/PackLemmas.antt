@@ -1,4 +1,4 @@
--- Lines that are packed, one after the other.
+-- Lines packed one after the other.
 use Rattle.std.proofs.Common.{Result, Ok, Err, OnOk, ◌≡◌, ◌∙◌, ◌+◌, ℕ, true, false, List, [], ◌∷◌, ◌++◌, length, refl, sym, ap, subst, arith, append-nil, length-append}
 use Rattle.line_engine.proofs.Public.{ended_lines_line, ended_lines_quiet, unended_line, unended_quiet}
 use Rattle.line_engine.specs.Lines.{ended_lines, last_line, lines, unended}
@@ -8,14 +8,14 @@ use Rattle.run_engine.specs.Machines.{Feeds, Goes, Halts, How, going, finished, 
 use Rattle.run_engine.specs.Seen.{Moment, moment, Puts, Seen}
 use Rattle.run_engine.specs.declared.machine.Halt.{Halt}
 use Rattle.run_engine.specs.declared.machine.Halt.TheVariants.{WriteFault, NoMemory, Stopped}
-use Rattle.run_engine.specs.declared.refusals.RefusedLine.{RefusedLine}
 use Rattle.fixed_pack.specs.Pack.{AreWordsOf}
-use Rattle.fixed_pack.specs.Packed.{Appends, EndsLine, GoesOn, IsRefusal, MakesPacked, Packs}
+use Rattle.fixed_pack.specs.Inner.Packing.{EndsLine}
+use Rattle.fixed_pack.specs.Packed.{Appends, GoesOn, IsRefusal, MakesPacked, Packs, Refusal}
 use Rattle.fixed_pack.specs.Recoded.{capped}
 use Rattle.fixed_pack.specs.declared.packer.Packer.{Packer}
 use Rattle.fixed_pack.proofs.RecodeLemmas.{capped_more, joined_more}
 
--- the last line is there if some of it is
+-- a rest that is not empty is the last line
 some_last : (rest : List ℕ) → (rest ≡ [] → ⊥) → last_line rest ≡ rest ∷ []
 some_last [] some = absurd (some refl)
 some_last (b ∷ rest) some = refl
@@ -34,10 +34,14 @@ module _ (P : List ℕ → List ℕ → Type 0) where
   packs_same ls text p = subst (Packs P ls) (sym (append-nil text)) p
 
   module _ {Q C : Type 0} (F : List ℕ → C → Type 0) (rule : Q) (old : Packer Q) (bytes made : List ℕ) (spent : ℕ) (makes : GoesOn P rule bytes made old) where
-    abbrev Makes : List ℕ → List ℕ → ℕ → How (RefusedLine C) → Packer Q → Type 0
+    abbrev Makes : List ℕ → List ℕ → ℕ → How C → Packer Q → Type 0
     Makes = MakesPacked P F rule
 
-    -- a line that ends is packed
+    -- why a machine stopped, with the number that it keeps
+    abbrev refused : Packer Q → C → Refusal C
+    refused it why = record { number = it.lines; cause = why }
+
+    -- packs a line that ended
     line_goes : (new : Packer Q) (part : List ℕ) (a b : Seen) (held held1 held2 : List ℕ) (steps steps' : ℕ) → ended_lines part ≡ [] → Puts a b held held1 [] → Appends (P (old.line.items ++ part)) held1 held2 → new.rule ≡ old.rule → new.line.items ≡ [] → new.lines ≡ one_more old.lines
         → Goes Makes bytes made spent (part ++ 10 ∷ []) going new (moment a held steps) (moment b held2 steps')
     line_goes new part a b held held1 held2 steps steps' quiet puts one rule_is none count =
@@ -57,7 +61,7 @@ module _ (P : List ℕ → List ℕ → Type 0) where
           steps = omega arith;
         }
 
-    -- bytes of a line that hasn't ended
+    -- takes more bytes of a line that has not ended
     pub part_goes : (new : Packer Q) (part : List ℕ) (a : Moment) → ended_lines part ≡ [] → new.line.items ≡ old.line.items ++ part → new.lines ≡ old.lines → new.rule ≡ old.rule → Goes Makes bytes made spent part going new a a
     part_goes new part a quiet line count rule_is = record {
       more = [];
@@ -72,7 +76,7 @@ module _ (P : List ℕ → List ℕ → Type 0) where
       steps = omega arith;
     }
 
-    -- there is no memory for a line
+    -- the memory for a line is lacking
     lines_same : Packs P (ended_lines (bytes ++ [])) (made ++ [])
     lines_same = subst (λ l. Packs P (ended_lines l) (made ++ [])) (sym (append-nil bytes)) (packs_same (ended_lines bytes) made makes.packs)
 
@@ -85,17 +89,17 @@ module _ (P : List ℕ → List ℕ → Type 0) where
       steps = omega arith;
     }
 
-    -- the refusal of the line after those that ended
-    refusal : (part : List ℕ) (refused : RefusedLine C) → IsRefusal F (old.line.items ++ part) (one_more old.lines) refused → IsRefusal F (unended bytes ++ part) (capped (length (ended_lines bytes) + 1)) refused
-    refusal part refused one =
+    -- the refusal of the line after the ended ones
+    refusal : (part : List ℕ) (r : Refusal C) (kept : List ℕ) → IsRefusal F (old.line.items ++ part) (one_more old.lines) r kept → IsRefusal F (unended bytes ++ part) (capped (length (ended_lines bytes) + 1)) r kept
+    refusal part r kept one =
         let line : old.line.items ++ part ≡ unended bytes ++ part = ap (λ l. l ++ part) makes.line in
-        subst (λ l. IsRefusal F l (capped (length (ended_lines bytes) + 1)) refused) line
-        (subst (λ n. IsRefusal F (old.line.items ++ part) n refused) (capped_more (one_more old.lines) old.lines (length (ended_lines bytes)) refl makes.count) one)
+        subst (λ l. IsRefusal F l (capped (length (ended_lines bytes) + 1)) r kept) line
+        (subst (λ n. IsRefusal F (old.line.items ++ part) n r kept) (capped_more (one_more old.lines) old.lines (length (ended_lines bytes)) refl makes.count) one)
 
-    -- a line that ends is refused
-    line_stops : (new : Packer Q) (part : List ℕ) (refused : RefusedLine C) (a b : Seen) (held held1 held2 : List ℕ) (steps steps' : ℕ) → ended_lines part ≡ [] → Puts a b held held1 [] → IsRefusal F (old.line.items ++ part) (one_more old.lines) refused → held2 ≡ held1
-        → Goes Makes bytes made spent (part ++ 10 ∷ []) (stopped false refused) new (moment a held steps) (moment b held2 steps')
-    line_stops new part refused a b held held1 held2 steps steps' quiet puts one none = record {
+    -- a line that ended is refused
+    line_stops : (new : Packer Q) (part : List ℕ) (why : C) (a b : Seen) (held held1 held2 : List ℕ) (steps steps' : ℕ) → ended_lines part ≡ [] → Puts a b held held1 [] → IsRefusal F (old.line.items ++ part) (one_more old.lines) (refused new why) new.kept → held2 ≡ held1
+        → Goes Makes bytes made spent (part ++ 10 ∷ []) (stopped false why) new (moment a held steps) (moment b held2 steps')
+    line_stops new part why a b held held1 held2 steps steps' quiet puts one none = record {
       more = [];
       cost = steps';
       makes = record {
@@ -104,21 +108,21 @@ module _ (P : List ℕ → List ℕ → Type 0) where
         after = [];
         stands = ended_lines_line bytes part [] quiet;
         packs = packs_same (ended_lines bytes) made makes.packs;
-        is = refusal part refused one;
+        is = refusal part (refused new why) new.kept one;
       };
       puts = subst (λ h. Puts a b held h []) (sym none) puts;
       steps = omega arith;
     }
 
-    -- a line that ends, whatever becomes of it
-    line_halts : (new : Packer Q) (part : List ℕ) (a b : Seen) (held held1 held2 : List ℕ) (steps steps' : ℕ) (halt : Halt (RefusedLine C)) → ended_lines part ≡ [] → Puts a b held held1 [] → EndsLine P F (old.line.items ++ part) (one_more old.lines) held1 held2 (Err halt)
+    -- a line that ended halts the machine: memory is lacking, or the line is refused
+    line_halts : (new : Packer Q) (part : List ℕ) (a b : Seen) (held held1 held2 : List ℕ) (steps steps' : ℕ) (halt : Halt C) → ended_lines part ≡ [] → Puts a b held held1 [] → EndsLine P F (old.line.items ++ part) (one_more old.lines) held1 held2 new.lines new.kept (Err halt)
         → Halts Makes false bytes made spent (part ++ 10 ∷ []) new (moment a held steps) (moment b held2 steps') halt
     line_halts new part a b held held1 held2 steps steps' WriteFault quiet puts e = absurd e
     line_halts new part a b held held1 held2 steps steps' NoMemory quiet puts e = record { some = []; rest = part ++ 10 ∷ []; cut = refl; goes = line_lacks new a b held held1 held2 steps steps' puts e }
     line_halts new part a b held held1 held2 steps steps' (Stopped r) quiet puts e = line_stops new part r a b held held1 held2 steps steps' quiet puts e.0 e.1
 
-    pub line_feeds : (new : Packer Q) (part : List ℕ) (byte : ℕ) (a b : Seen) (held held1 held2 : List ℕ) (steps steps' : ℕ) (result : Result (Unit {0}) (Halt (RefusedLine C))) → byte ≡ 10 → ended_lines part ≡ [] → Puts a b held held1 []
-        → EndsLine P F (old.line.items ++ part) (one_more old.lines) held1 held2 result → new.rule ≡ old.rule → OnOk result (new.line.items ≡ []) → OnOk result (new.lines ≡ one_more old.lines)
+    pub line_feeds : (new : Packer Q) (part : List ℕ) (byte : ℕ) (a b : Seen) (held held1 held2 : List ℕ) (steps steps' : ℕ) (result : Result (Unit {0}) (Halt C)) → byte ≡ 10 → ended_lines part ≡ [] → Puts a b held held1 []
+        → EndsLine P F (old.line.items ++ part) (one_more old.lines) held1 held2 new.lines new.kept result → new.rule ≡ old.rule → OnOk result (new.line.items ≡ []) → OnOk result (new.lines ≡ one_more old.lines)
         → Feeds Makes bytes made spent (part ++ byte ∷ []) new (moment a held steps) (moment b held2 steps') result
     line_feeds new part byte a b held held1 held2 steps steps' (Ok u) is quiet puts e rule_is none count =
         subst (λ n. Goes Makes bytes made spent (part ++ n ∷ []) going new (moment a held steps) (moment b held2 steps')) (sym is) (line_goes new part a b held held1 held2 steps steps' quiet puts e rule_is none count)
@@ -139,7 +143,7 @@ module _ (P : List ℕ → List ℕ → Type 0) where
       steps = omega arith;
     }
 
-    -- with a last line
+    -- if there is a last line without a newline
     module _ (some : old.line.items ≡ [] → ⊥) where
       last_is : last_line (unended bytes) ≡ unended bytes ∷ []
       last_is = some_last (unended bytes) (λ none. some (makes.line ∙ none))
@@ -162,9 +166,9 @@ module _ (P : List ℕ → List ℕ → Type 0) where
         steps = omega arith;
       }
 
-      last_stops : (new : Packer Q) (refused : RefusedLine C) (a b : Seen) (held held1 held2 : List ℕ) (steps steps' : ℕ) → Puts a b held held1 [] → IsRefusal F (old.line.items ++ []) (one_more old.lines) refused → held2 ≡ held1
-          → Goes Makes bytes made spent [] (stopped true refused) new (moment a held steps) (moment b held2 steps')
-      last_stops new refused a b held held1 held2 steps steps' puts one none = record {
+      last_stops : (new : Packer Q) (why : C) (a b : Seen) (held held1 held2 : List ℕ) (steps steps' : ℕ) → Puts a b held held1 [] → IsRefusal F (old.line.items ++ []) (one_more old.lines) (refused new why) new.kept → held2 ≡ held1
+          → Goes Makes bytes made spent [] (stopped true why) new (moment a held steps) (moment b held2 steps')
+      last_stops new why a b held held1 held2 steps steps' puts one none = record {
         more = [];
         cost = steps';
         makes = record {
@@ -173,19 +177,19 @@ module _ (P : List ℕ → List ℕ → Type 0) where
           after = [];
           stands = (refl, ap (λ l. last_line (unended l)) (append-nil bytes) ∙ last_is);
           packs = lines_same;
-          is = subst (λ l. IsRefusal F (unended bytes) (capped (length (ended_lines l) + 1)) refused) (sym (append-nil bytes))
-              (subst (λ l. IsRefusal F l (capped (length (ended_lines bytes) + 1)) refused) line_is (refusal [] refused one));
+          is = subst (λ l. IsRefusal F (unended bytes) (capped (length (ended_lines l) + 1)) (refused new why) new.kept) (sym (append-nil bytes))
+              (subst (λ l. IsRefusal F l (capped (length (ended_lines bytes) + 1)) (refused new why) new.kept) line_is (refusal [] (refused new why) new.kept one));
         };
         puts = subst (λ h. Puts a b held h []) (sym none) puts;
         steps = omega arith;
       }
 
-      pub last_halts : (new : Packer Q) (a b : Seen) (held held1 held2 : List ℕ) (steps steps' : ℕ) (halt : Halt (RefusedLine C)) → Puts a b held held1 [] → EndsLine P F (old.line.items ++ []) (one_more old.lines) held1 held2 (Err halt)
+      pub last_halts : (new : Packer Q) (a b : Seen) (held held1 held2 : List ℕ) (steps steps' : ℕ) (halt : Halt C) → Puts a b held held1 [] → EndsLine P F (old.line.items ++ []) (one_more old.lines) held1 held2 new.lines new.kept (Err halt)
           → Halts Makes true bytes made spent [] new (moment a held steps) (moment b held2 steps') halt
       last_halts new a b held held1 held2 steps steps' WriteFault puts e = absurd e
       last_halts new a b held held1 held2 steps steps' NoMemory puts e = record { some = []; rest = []; cut = refl; goes = line_lacks new a b held held1 held2 steps steps' puts e }
       last_halts new a b held held1 held2 steps steps' (Stopped r) puts e = last_stops new r a b held held1 held2 steps steps' puts e.0 e.1
 
--- a machine that was just made
+-- a new machine has packed nothing
 pub nothing_packed : {Q : Type 0} (P : List ℕ → List ℕ → Type 0) (new : Packer Q) → new.line.items ≡ [] → new.lines ≡ 0 → GoesOn P new.rule [] [] new
 nothing_packed P new line count = record { packs = record { words = []; are = tt; text_is = refl }; rule_is = refl; line = line; count = count }

@@ -36,7 +36,7 @@ use Rattle.fixed_pack.specs.Word.{IsBitsOf, word_length}
 use Rattle.fixed_pack.specs.declared.float_words.WordRefusal.TheVariants.{Overflow, TooWide}
 
 -- ---- the text of a word
--- the digits of a word have room for its bits
+-- the bytes and digits of a word have room for its bits
 pub record HasDigits (n : ℕ) : Type 0 where
   pub bytes : 2 ^ n ≤ 256 ^ word_length n
   pub digits : 2 ^ n ≤ 16 ^ (2 * word_length n)
@@ -56,7 +56,7 @@ has_digits n width =
 same_power : (c : ℕ) → 256 ^ c ≡ 16 ^ (2 * c)
 same_power c = pow-mul 2 8 c ∙ (ap (λ k. 2 ^ k) (omega arith) ∙ sym (pow-mul 2 4 (2 * c)))
 
--- ---- the line that asks for the conversion of the text is no longer than a line may be
+-- ---- the line that requests the conversion of the text is no longer than a line may be
 radix_length : (r : Radix) → length (radix_text r) ≤ 2
 radix_length Bin = omega arith
 radix_length Oct = omega arith
@@ -112,7 +112,7 @@ module _ (s : Settings) (number : ℕ) (old new : List ℕ) (source : IsFormat s
   short : length (asking_line (for_words s) text) ≤ longest_line
   short = line_short (for_words s) text source target (text_short s.source.width number (width_most s.source.width source.is_width))
 
-  -- that spells too wide a number
+  -- the word spells too wide a number
   pub wide_replied : 2 ^ s.source.width ≤ number → number < 256 ^ word_length s.source.width → new ≡ old ++ (fault_answer (refusal_text TooWide)).text → PushesReply s number old new (Some TooWide)
   wide_replied wide few appended =
       let c : ℕ = word_length s.source.width in
@@ -132,7 +132,7 @@ module _ (s : Settings) (number : ℕ) (old new : List ℕ) (source : IsFormat s
         subst (λ n. IsWord s.radix s.source (number_text (word_length s.source.width) n) bits) is.word_is
         (spelled_word s.source s.radix (2 * word_length s.source.width) bits source.is_width is.in_range room.some room.digits)
 
-    -- of bits that have no image in the target
+    -- the bits have no image in the target
     pub overflow_replied : IsNotReformatted s.target_mode s.policy s.target bits s.source.frac → new ≡ old ++ (fault_answer (refusal_text Overflow)).text → PushesReply s number old new (Some Overflow)
     overflow_replied none appended = record {
       text = [];
@@ -141,7 +141,7 @@ module _ (s : Settings) (number : ℕ) (old new : List ℕ) (source : IsFormat s
       appended = appended;
     }
 
-    -- and of bits that have one
+    -- the bits have an image in the target
     pub image_replied : HasPushedImage s bits false old new → PushesReply s number old new None
     image_replied p = record {
       text = printed s.print s.target (respelled_answer p.text p.bits p.target_out).text p.text p.bits;

@@ -1,4 +1,4 @@
--- The bytes of words, and their number.
+-- The bytes of words, and the number that they spell.
 use Rattle.std.proofs.Common.{◌≡◌, ◌∙◌, ◌+◌, ◌-◌, ◌*◌, ◌/◌, ◌%◌, ◌^◌, ◌<◌, ◌≤◌, ℕ, zero, suc, List, [], ◌∷◌, ◌++◌, length, take, drop, get_or, reverse, refl, sym, ap, arith, append-nil, append_assoc, pow-suc}
 use Rattle.std.proofs.Math.Nat.{div-div-eq-div-mul, div-one, pow-le-pow_right}
 use Rattle.std.proofs.Math.Seq.{drop-append_seam, take-append_seam}
@@ -51,7 +51,7 @@ high_pushed old mid new (suc k) n some first rest =
     rest ∙ ap (λ l. l ++ byte) (first ∙ ap (λ j. old ++ reverse (low_bytes j (n / 256))) one)
     ∙ append_assoc old high byte ∙ ap (λ l. old ++ l) (sym (reverse_more (n % 256) (low_bytes k (n / 256)))) ∙ ap (λ l. old ++ reverse l) (sym (low_more k n))
 
--- ---- their number
+-- ---- the number that the bytes spell
 pub low_back : (k n : ℕ) → n < 256 ^ k → low_number (low_bytes k n) ≡ n
 low_back zero n fits = ap low_number (low_none n) ∙ (number_none ∙ omega (arith, fits))
 low_back (suc k) n fits =
@@ -61,12 +61,6 @@ low_back (suc k) n fits =
 pub word_back : WordReadsBack
 word_back Little k n fits = low_back k n fits
 word_back Big k n fits = ap low_number (reverse-reverse (low_bytes k n)) ∙ low_back k n fits
-
--- the number of eight bytes fits 64 bits
-pub below_words : (k n : ℕ) → k ≤ 8 → n < 256 ^ k → n < 2 ^ 64
-below_words k n few fits =
-    let most : 256 ^ k ≤ 256 ^ 8 = pow-le-pow_right {n = 256} (omega arith) few in
-    omega (arith, fits, most)
 
 -- ---- the number, byte by byte
 pub none_number : (bytes : List ℕ) → length bytes < 1 → 0 ≡ low_number bytes
@@ -138,7 +132,7 @@ four_low n = sym (low_is 0 4 n) ∙ ap (low_bytes 4) (div-one n)
 two_low : (n : ℕ) → to_le_bytes w16 n ≡ low_bytes 2 n
 two_low n = sym (low_is 0 2 n) ∙ ap (low_bytes 2) (div-one n)
 
--- bytes that a number has are those of which it is the number
+-- the bytes of a number spell that number
 number_back : (endian : Endian) (k n : ℕ) (bytes : List ℕ) → n < 256 ^ k → bytes_of endian k n ≡ bytes → n ≡ number_of endian bytes
 number_back endian k n bytes fits are = sym (word_back endian k n fits) ∙ ap (number_of endian) are
 
@@ -161,7 +155,7 @@ module _ (bytes : List ℕ) (n : ℕ) (small : (i : ℕ) → get_or bytes i 0 < 
   pub eight_big : length bytes ≡ 8 → n < 2 ^ 64 → n ≡ from_be_bytes w64 bytes → n ≡ low_number (reverse bytes)
   eight_big whole fits is = number_back Big 8 n bytes (omega (arith, fits)) (ap reverse (sym (eight_low n)) ∙ be_bytes_8 bytes n whole small is)
 
--- the first of a number's bytes, and others
+-- the low bytes of a number start with fewer of them
 split_low : (j k n : ℕ) → j ≤ k → (rest : List ℕ) × (low_bytes k n ≡ low_bytes j n ++ rest) × (length rest ≡ k - j)
 split_low zero k n few = (low_bytes k n, ap (λ l. l ++ low_bytes k n) (sym (low_none n)), omega (arith, low_length k n))
 split_low (suc j) zero n few = absurd (omega (arith, few))

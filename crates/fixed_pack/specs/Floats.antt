@@ -14,7 +14,7 @@ use Rattle.fixed_pack.specs.declared.float_words.WordRefusal.{WordRefusal}
 use Rattle.fixed_pack.specs.declared.float_words.WordRefusal.TheVariants.{NotFinite, Overflow, TooWide}
 use Rattle.fixed_pack.specs.declared.word_floats.WordFloats.{WordFloats}
 
--- how many bytes a float has
+-- the number of bytes of a float
 abbrev pub float_size : FloatLayout → ℕ
 float_size Binary32 = 4
 float_size Binary64 = 8
@@ -38,7 +38,7 @@ pub record IsFloatNumber (s : FloatWords) (float word : ℕ) : Type 0 where
   pub are : AreFloatBits s float bits
   pub word_is : word ≡ word_of s.format.width bits
 
--- its read number has no image
+-- the float is finite, and its read number has no image
 pub record Overflows (s : FloatWords) (float : ℕ) : Type 0 where
   pub finite : IsFinite s.layout float
   pub number : ℤ

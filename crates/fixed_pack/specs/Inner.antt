@@ -1,2 +1,3 @@
 -- Contracts of private functions.
+pub mod Packing
 pub mod Unpacking

@@ -6,6 +6,9 @@ pub mod Part
 pub mod Recoded
 pub mod Floats
 pub mod Repacked
+pub mod Amounts
+pub mod Bits
+pub mod LaidOut
 pub mod Laws
 pub mod Inner
 pub mod Lemmas

@@ -1,5 +1,5 @@
 -- The words of numerals that are packed.
-use Rattle.std.specs.Prelude.{◌≡◌, ◌^◌, ℕ, ℤ, Bool, List, [], ◌∷◌}
+use Rattle.std.specs.Prelude.{◌≡◌, ℕ, ℤ, Bool, List, [], ◌∷◌}
 use Rattle.fixed_bits.specs.Ranges.{IsWidth}
 use Rattle.fixed_command.specs.Convert.{without_return}
 use Rattle.fixed_numeral.specs.declared.error.ParseErrorKind.{ParseErrorKind}
@@ -28,7 +28,3 @@ AreWordsOf P (line ∷ lines) (word ∷ words) = P line word × AreWordsOf P lin
 
 abbrev pub ArePacked : PackSettings → List (List ℕ) → List (List ℕ) → Type 0
 ArePacked s lines words = AreWordsOf (IsPacked s) lines words
-
--- from how many bytes on an input is too long: no machine can hand over so many
-abbrev pub most_bytes : ℕ
-most_bytes = 2 ^ 62

@@ -1,7 +1,7 @@
--- What contracts see of a word that is not whole.
+-- The view that contracts have of a word that is not whole.
 use Rattle.std.specs.Prelude.{ℕ, List}
 
--- its bytes, and how many a whole word has
+-- its bytes, and the number of bytes of a whole word
 pub record PartView : Type 0 where
   pub bytes : List ℕ
   pub size : ℕ

@@ -8,7 +8,6 @@ use Rattle.run_engine.specs.Seen.{Seen, moment}
 use Rattle.run_engine.specs.declared.engine.End.{End}
 use Rattle.run_engine.specs.declared.machine.Halt.{Halt}
 use Rattle.run_engine.specs.declared.machine.Halt.TheVariants.{WriteFault, NoMemory, Stopped}
-use Rattle.fixed_pack.specs.Pack.{most_bytes}
 use Rattle.fixed_pack.specs.Unpack.{AreWords, HaveLength}
 use Rattle.fixed_pack.specs.Word.{joined}
 use Rattle.fixed_pack.specs.declared.recoder.Recoder.{Recoder}
@@ -34,7 +33,7 @@ IsRecoded R F before after (Err why) = F why × (after ≡ before)
 abbrev pub capped : ℕ → ℕ
 capped n = min n (2 ^ 64 - 1)
 
--- after `words` words, of which one was refused or none, a word was recoded: what the machine then is
+-- the machine after one more word was recoded: `words` words came before, and `fault` says whether one was refused
 pub record RecodesWord {Q W C : Type 0} (R : List ℕ → Option C → Type 0) (Saw : W → ℕ → List ℕ → Option C → W → Type 0)
     (word : List ℕ) (words : ℕ) (fault : Bool) (watch : W) (new : Recoder Q W) (before after : List ℕ) : Type 0 where
   pub cause : Option C
@@ -85,6 +84,19 @@ causes_of (made ∷ all) = made.1 ∷ causes_of all
 abbrev pub any_refused : {C : Type 0} → List (List ℕ × Option C) → Bool
 any_refused [] = false
 any_refused (made ∷ all) = is_some made.1 || any_refused all
+
+-- the first `count` words of the bytes, none of them refused, become what is appended
+pub record AreFront {C : Type 0} (size : ℕ) (R : List ℕ → List ℕ → Option C → Type 0) (bytes before after : List ℕ)
+    (count : ℕ) : Type 0 where
+  pub words : List (List ℕ)
+  pub all : List (List ℕ × Option C)
+  pub rest : List ℕ
+  pub whole : HaveLength size words
+  pub cut : bytes ≡ joined words ++ rest
+  pub count_is : count ≡ length words
+  pub are : AreRecoded R words all
+  pub none : any_refused all ≡ false
+  pub appended : after ≡ before ++ made_of all
 
 -- whether there are any bytes
 abbrev pub has_some : List ℕ → Bool
@@ -137,14 +149,15 @@ MakesWords size R F Saw rule watch bytes text spent (stopped late refused) last 
 
 -- ---- what a run leaves
 -- a and b are what was seen of both devices before and after it, by names for them; the observer became `then`
-pub record HasRecoded {Q W C : Type 0} (size : ℕ) (R : List ℕ → List ℕ → Option C → Type 0) (F : List ℕ → C → Type 0)
-    (Saw : W → ℕ → List ℕ → Option C → W → Type 0) (rule : Q) (watch then : W) (a b : ℕ → ℕ → Seen)
+pub record HasRecoded {Q W C : Type 0} (limit size : ℕ) (R : List ℕ → List ℕ → Option C → Type 0)
+    (F : List ℕ → C → Type 0) (Saw : W → ℕ → List ℕ → Option C → W → Type 0) (rule : Q) (watch then : W)
+    (a b : ℕ → ℕ → Seen)
     (steps steps' left_over : ℕ) (end : End (RefusedWord C)) : Type 0 where
   pub last : Recoder Q W
   pub held : List ℕ
   pub source : ℕ
   pub sink : ℕ
-  pub run : HasRun (MakesWords size R F Saw rule watch) last most_bytes (moment (a source sink) [] steps)
+  pub run : HasRun (MakesWords size R F Saw rule watch) last limit (moment (a source sink) [] steps)
       (moment (b source sink) held steps') end
   pub over : left_over ≡ length last.part.bytes
   pub watched : then ≡ last.watch

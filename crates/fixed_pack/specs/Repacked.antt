@@ -7,20 +7,20 @@ use Rattle.fixed_pack.specs.declared.float_words.WordRefusal.{WordRefusal}
 use Rattle.fixed_pack.specs.declared.float_words.WordRefusal.TheVariants.{NotFinite, Overflow, TooWide}
 use Rattle.fixed_pack.specs.declared.repack.Repack.{Repack}
 
--- the word that is this number has this image in the target
+-- the word with this number has this image in the target
 pub record HasImage (s : Repack) (number : ℕ) (image : ℤ) : Type 0 where
   pub bits : ℤ
   pub are : IsBitsOf s.source number bits
   pub overflowed : Bool
   pub moved : IsReformatted s.target_mode s.policy s.target bits s.source.frac image overflowed
 
--- or none
+-- the word with this number has no image in the target
 pub record HasNoImage (s : Repack) (number : ℕ) : Type 0 where
   pub bits : ℤ
   pub are : IsBitsOf s.source number bits
   pub none : IsNotReformatted s.target_mode s.policy s.target bits s.source.frac
 
--- or it has a bit above the source's width
+-- the word has no image in the target, or it has a bit above the source's width
 abbrev pub IsImageless : Repack → ℕ → WordRefusal → Type 0
 IsImageless s number NotFinite = ⊥
 IsImageless s number Overflow = HasNoImage s number

@@ -1,4 +1,4 @@
--- What is written for words that are unpacked.
+-- The text that is written for words that are unpacked.
 use Rattle.std.specs.Prelude.{◌≡◌, ◌*◌, ◌<◌, ◌++◌, ℕ, false, List, [], ◌∷◌, Option, codes, length}
 use Rattle.fixed_command.specs.Convert.{IsReply}
 use Rattle.fixed_command.specs.declared.convert.Settings.{Settings}
@@ -18,13 +18,13 @@ abbrev pub HaveLength : ℕ → List (List ℕ) → Type 0
 HaveLength count [] = Unit {0}
 HaveLength count (word ∷ words) = (length word ≡ count) × HaveLength count words
 
--- the bytes are these words, of `count` bytes each, and fewer bytes that are left over
+-- the bytes are these words, of `count` bytes each, and fewer than `count` bytes that are left over
 pub record AreWords (count : ℕ) (bytes : List ℕ) (words : List (List ℕ)) (rest : List ℕ) : Type 0 where
   pub whole : HaveLength count words
   pub short : length rest < count
   pub cut : bytes ≡ joined words ++ rest
 
--- how many bytes a word of a rule has
+-- the number of bytes of a rule's words
 abbrev pub count_of : UnpackRule → ℕ
 count_of r = word_length r.settings.source.width
 
@@ -36,7 +36,7 @@ abbrev pub word_text : Endian → ℕ → List ℕ → List ℕ
 word_text endian count word = number_text count (number_of endian word)
 
 -- ---- the lines
--- these settings, for words
+-- these settings, with the spelling Word
 abbrev pub for_words : Settings → Settings
 for_words s = record {
   spelling = Word;
@@ -49,11 +49,11 @@ for_words s = record {
   print = s.print;
 }
 
--- the reply to a word is that to its text
+-- the reply to a word is the reply to its text
 abbrev pub IsWordReply : UnpackRule → List ℕ → AnswerText → Type 0
 IsWordReply r word reply = IsReply (for_words r.settings) (word_text r.endian (count_of r) word) reply
 
--- the line of a word is the reply to it, which is a text, or says for which cause it is refused
+-- the line of a word is the reply to it: a text, or the cause of its refusal
 pub record IsWordLine (r : UnpackRule) (word line : List ℕ) (cause : Option WordRefusal) : Type 0 where
   pub text : List ℕ
   pub reply : IsWordReply r word (reply_of refusal_text text cause)

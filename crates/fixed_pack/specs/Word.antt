@@ -6,7 +6,7 @@ use Rattle.fixed_command.specs.Hex.{word_of}
 use Rattle.fixed_pack.specs.declared.endian.Endian.{Endian}
 use Rattle.fixed_pack.specs.declared.endian.Endian.TheVariants.{Big, Little}
 
--- how many bytes a word of this width in bits has
+-- the number of bytes of a word of this width in bits
 abbrev pub word_length : ℕ → ℕ
 word_length width = (width + 7) / 8
 
@@ -20,12 +20,12 @@ abbrev pub bytes_of : Endian → ℕ → ℕ → List ℕ
 bytes_of Little count n = low_bytes count n
 bytes_of Big count n = reverse (low_bytes count n)
 
--- the number of bytes, the least significant first
+-- the number that bytes stand for, the least significant first
 unfoldable pub low_number : List ℕ → ℕ
 low_number [] = 0
 low_number (b ∷ bs) = b + 256 * low_number bs
 
--- the number of bytes, in an order
+-- the number that bytes stand for, in an order
 abbrev pub number_of : Endian → List ℕ → ℕ
 number_of Little bytes = low_number bytes
 number_of Big bytes = low_number (reverse bytes)
@@ -34,7 +34,7 @@ number_of Big bytes = low_number (reverse bytes)
 abbrev pub word_bytes : Endian → FormatParts → ℤ → List ℕ
 word_bytes endian f bits = bytes_of endian (word_length f.width) (word_of f.width bits)
 
--- the bits of a format of which this is the word
+-- n is the word of these bits of the format
 pub record IsBitsOf (f : FormatParts) (n : ℕ) (bits : ℤ) : Type 0 where
   pub width : IsWidth f.width
   pub in_range : IsInRange f.signed f.width bits

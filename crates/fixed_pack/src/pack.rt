@@ -5,24 +5,24 @@ ghost use Rattle.fixed_bits.specs.Ranges.{IsWidth};
 
 use crate::Endian;
 use crate::pack_rule::Pack;
-use crate::word::{push_word, word_length};
+use crate::word::{push_word, signed_word, word_length};
 use fixed_bits::{Format, Policy, ReadMode};
-use fixed_command::{without_return, word_of};
+use fixed_command::without_return;
 use fixed_numeral::{ParseFixedError, Radix};
-use fixed_show::read_shown;
+use fixed_show::read_image;
 use fixed_steps::Steps;
 use line_engine::Output;
 use std::sync::ledger::Ledger;
 
-/// How numerals are packed: each into the bits of its number in two's complement, in the fewest bytes that have the
-/// format's width; the bits above the width are zeros. A carriage return at the end of a line is no part of it.
+/// How numerals are packed: each into the bits of its number in two's complement, in the fewest bytes that hold the
+/// format's width; the bits above the width are zeros. A carriage return at the end of a line is not part of it.
 #[derive(Clone, Copy, Debug, PartialEq, Eq)]
 pub struct PackSettings {
     /// The radix of the numerals.
     pub radix: Radix,
     /// The format that a numeral is read into.
     pub format: Format,
-    /// What is done with a number that is out of range.
+    /// What to do with a number that is out of range.
     pub policy: Policy,
     /// How a numeral is rounded.
     pub mode: ReadMode,
@@ -30,7 +30,7 @@ pub struct PackSettings {
     pub endian: Endian,
 }
 
-/// A format's width.
+/// Returns a format's width.
 pub(crate) fn width_of(format: Format) -> u32
     ensures value { result ≡ format.width }
     ensures valid { IsWidth format.width }
@@ -57,7 +57,7 @@ impl Pack for PackSettings {
     ) -> Result<(), ParseFixedError> {
         let s = self;
         let _width = width_of(s.format);
-        match read_shown(
+        match read_image(
             without_return(line),
             s.radix,
             s.format,
@@ -65,13 +65,9 @@ impl Pack for PackSettings {
             s.mode,
             steps,
         ) {
-            Ok(found) => {
-                push_word(
-                    out,
-                    s.endian,
-                    word_length(s.format),
-                    word_of(s.format, found.bits),
-                );
+            Ok(image) => {
+                let word = signed_word(s.format, image.negative, image.magnitude);
+                push_word(out, s.endian, word_length(s.format), word);
                 Ok(())
             }
             Err(error) => Err(error),

@@ -1,4 +1,4 @@
-//! What packs lines: each line of an input into a word.
+//! Rules that pack each line of an input into a word.
 
 ghost use Rattle.std.specs.Prelude.{◌≡◌, ◌+◌, ◌≤◌, ℕ, List, length};
 ghost use Rattle.fixed_pack.specs.Packed.{IsPackedInto};
@@ -7,7 +7,7 @@ use fixed_steps::Steps;
 use line_engine::Output;
 use std::sync::ledger::Ledger;
 
-/// A rule that makes the bytes of a word of a line, or refuses it.
+/// A rule that turns a line into the bytes of a word, or refuses it.
 pub trait Pack {
     /// Why a line is refused.
     type Cause: Copy + Drop;
@@ -18,7 +18,7 @@ pub trait Pack {
     /// Whether a line is refused for a cause.
     ghost Refuses: { Self → List ℕ → Self.Cause → Type 0 };
 
-    /// Appends what a line becomes that is without its newline, at most 8 bytes; nothing if it is refused.
+    /// Appends the bytes of a line without its newline, at most 8, or nothing if it is refused.
     fn pack<L: Ledger>(
         &self,
         line: &[u8],
@@ -31,11 +31,11 @@ pub trait Pack {
     /// A line becomes one list of bytes.
     ghost one_law: { (rule : Self) (line a b : List ℕ) → Packs rule line a → Packs rule line b → a ≡ b };
 
-    /// It is refused for one cause.
+    /// A line is refused for one cause.
     ghost cause_law: { (rule : Self) (line : List ℕ) (a b : Self.Cause) → Refuses rule line a → Refuses rule line b
         → a ≡ b };
 
-    /// And never if it becomes bytes.
+    /// A line that becomes bytes is never refused.
     ghost never_law: { (rule : Self) (line made : List ℕ) (why : Self.Cause) → Packs rule line made
         → Refuses rule line why → ⊥ };
 }

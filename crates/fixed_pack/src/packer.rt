@@ -1,29 +1,33 @@
-//! The machine of lines that are packed.
+//! The machine that packs lines.
 
 ghost use Rattle.std.specs.Prelude.{◌≡◌, ◌+◌, ◌≤◌, ◌++◌, [], OnOk, length, take};
 ghost use Rattle.run_engine.specs.LineRun.{one_more};
-ghost use Rattle.fixed_pack.specs.Packed.{EndsLine};
+ghost use Rattle.run_engine.specs.declared.machine.Halt.TheVariants.{Stopped};
+ghost use Rattle.fixed_pack.specs.Inner.Packing.{EndsLine};
 
 use crate::pack_rule::Pack;
 use fixed_steps::Steps;
 use line_engine::Output;
-use run_engine::{Gathered, Halt, Pieces, RefusedLine, Streams, find_newline};
+use run_engine::{Gathered, Halt, Pieces, Streams, find_newline};
 use std::alloc::Global;
 use std::sync::ledger::Ledger;
 use text_buffer::{NoMemory, TextBuffer};
 
 /// The most bytes of a refused line that are kept.
-const KEPT: usize = 160;
+pub const KEPT: usize = 160;
 
-/// Lines that are packed by a rule, up to the first that it refuses: their words, one after another.
+/// Packs lines into words by a rule, one after another, up to the first refused line. The machine keeps the number and
+/// the first bytes of that line, since the result of each step has room for all that it may return.
 #[derive(Drop)]
 pub struct Packer<R> {
     /// The rule.
     pub rule: R,
-    /// The line whose end has not come.
+    /// The unfinished line.
     pub line: Vec<u8>,
-    /// How many lines ended; the count stays at the last value of u64.
+    /// The number of lines that ended. The count stays at the greatest `u64`.
     pub lines: u64,
+    /// The first bytes of the refused line.
+    pub kept: TextBuffer<KEPT>,
 }
 
 /// Appends bytes.
@@ -36,25 +40,19 @@ fn append(bytes: &mut Vec<u8>, part: &[u8]) -> Result<(), NoMemory>
     }
 }
 
-/// The line that is refused.
+/// Keeps the first bytes of a refused line. Returns why the machine stops.
 #[cold]
-fn refused_line<C: Copy>(number: u64, line: &[u8], cause: C) -> RefusedLine<C>
-    ensures number { result.number ≡ number }
-    ensures line { result.line ≡ take 160 line.now }
-    ensures cause { result.cause ≡ cause }
+fn refuse<C: Copy>(kept: &mut TextBuffer<KEPT>, line: &[u8], cause: C) -> Halt<C>
+    ensures kept { kept.new ≡ take 160 line.now }
+    ensures halt { result ≡ Stopped cause }
 {
-    let mut text = TextBuffer::new();
-    let count = KEPT.min(line.len());
-    text.push_bytes(&line[..count]);
-    RefusedLine {
-        number,
-        line: text,
-        cause,
-    }
+    kept.clear();
+    kept.push_bytes(&line[..KEPT.min(line.len())]);
+    Halt::Stopped(cause)
 }
 
 impl<R: Pack> Packer<R> {
-    /// No line yet.
+    /// Returns a packer before the first line.
     pub fn new(alloc: Global, rule: R) -> Packer<R>
         ensures rule { result.rule ≡ rule }
         ensures line { result.line.items ≡ [] }
@@ -64,53 +62,41 @@ impl<R: Pack> Packer<R> {
             rule,
             line: Vec::new(alloc),
             lines: 0,
+            kept: TextBuffer::new(),
         }
     }
 
-    /// Packs a line, and counts it.
-    #[inline(always)]
-    fn pack_line<L: Ledger>(
-        rule: &R,
-        number: u64,
-        line: &[u8],
-        out: &mut Output,
-        steps: &mut Steps<L>,
-    ) -> Result<(), Halt<RefusedLine<R::Cause>>>
-        requires { length out.old + 8 ≤ 8192 }
-        ensures { EndsLine (R.Packs rule.now) (R.Refuses rule.now) line.now number out.old out.new result }
-    {
-        match rule.pack(line, out, steps) {
-            Ok(()) => Ok(()),
-            Err(cause) => Err(Halt::Stopped(refused_line(number, line, cause))),
-        }
-    }
-
-    /// Packs the line that ends with this part, and begins a new one. A line that is whole in the part is not copied.
+    /// Packs the line that ends with this part and begins a new one. A line that is whole in the part is not copied.
     #[inline(always)]
     fn end_line<L: Ledger>(
         &mut self,
         part: &[u8],
         out: &mut Output,
         steps: &mut Steps<L>,
-    ) -> Result<(), Halt<RefusedLine<R::Cause>>>
+    ) -> Result<(), Halt<R::Cause>>
         requires { length out.old + 8 ≤ 8192 }
         ensures rule { self.new.rule ≡ self.old.rule }
         ensures line { OnOk result (self.new.line.items ≡ []) }
         ensures lines { OnOk result (self.new.lines ≡ one_more self.old.lines) }
         ensures ended { EndsLine (R.Packs self.old.rule) (R.Refuses self.old.rule) (self.old.line.items ++ part.now)
-            (one_more self.old.lines) out.old out.new result }
+            (one_more self.old.lines) out.old out.new self.new.lines self.new.kept result }
     {
         self.lines = self.lines.saturating_add(1);
         if self.line.is_empty() {
-            return Packer::pack_line(&self.rule, self.lines, part, out, steps);
+            return match self.rule.pack(part, out, steps) {
+                Ok(()) => Ok(()),
+                Err(cause) => Err(refuse(&mut self.kept, part, cause)),
+            };
         }
         match append(&mut self.line, part) {
             Err(_) => Err(Halt::NoMemory),
-            Ok(()) => {
-                let end = Packer::pack_line(&self.rule, self.lines, &self.line, out, steps);
-                self.line.clear();
-                end
-            }
+            Ok(()) => match self.rule.pack(&self.line, out, steps) {
+                Ok(()) => {
+                    self.line.clear();
+                    Ok(())
+                }
+                Err(cause) => Err(refuse(&mut self.kept, &self.line, cause)),
+            },
         }
     }
 }
@@ -120,7 +106,7 @@ impl<R: Pack, L: Ledger> Pieces<L> for Packer<R> {
     ghost use Rattle.fixed_pack.specs.Packed.{MakesPacked};
     ghost use Rattle.fixed_pack.specs.Lemmas.PackedLaws.{packed_one, packed_stays};
 
-    type Stop = RefusedLine<R::Cause>;
+    type Stop = R::Cause;
 
     ghost Makes = { λ first bytes text spent how last. MakesPacked (R.Packs first.rule) (R.Refuses first.rule)
         first.rule bytes text spent how last };
@@ -139,7 +125,7 @@ impl<R: Pack, L: Ledger> Pieces<L> for Packer<R> {
         _byte: u8,
         out: &mut Gathered<I>,
         steps: &mut Steps<L>,
-    ) -> Result<(), Halt<RefusedLine<R::Cause>>> {
+    ) -> Result<(), Halt<R::Cause>> {
         match out.make_room(8) {
             Err(_) => Err(Halt::WriteFault),
             Ok(()) => self.end_line(part, &mut out.text, steps),
@@ -151,7 +137,7 @@ impl<R: Pack, L: Ledger> Pieces<L> for Packer<R> {
         part: &[u8],
         _out: &mut Gathered<I>,
         _steps: &mut Steps<L>,
-    ) -> Result<(), Halt<RefusedLine<R::Cause>>> {
+    ) -> Result<(), Halt<R::Cause>> {
         match append(&mut self.line, part) {
             Err(_) => Err(Halt::NoMemory),
             Ok(()) => Ok(()),
@@ -162,7 +148,7 @@ impl<R: Pack, L: Ledger> Pieces<L> for Packer<R> {
         &mut self,
         out: &mut Gathered<I>,
         steps: &mut Steps<L>,
-    ) -> Result<bool, Halt<RefusedLine<R::Cause>>> {
+    ) -> Result<bool, Halt<R::Cause>> {
         if self.line.is_empty() {
             return Ok(false);
         }
@@ -180,5 +166,5 @@ impl<R: Pack, L: Ledger> Pieces<L> for Packer<R> {
         bytes made other spent cost how then p q };
 
     ghost stop_law = { λ first last bytes more text spent why p. packed_stays (R.Packs first.rule)
-        (R.Refuses first.rule) bytes more text why p };
+        (R.Refuses first.rule) bytes more text (record { number = last.lines; cause = why }) last.kept p };
 }

@@ -6,7 +6,7 @@ ghost use Rattle.fixed_pack.specs.Part.{part_of};
 use std::marker::Model;
 use text_buffer::TextBuffer;
 
-/// The first bytes of a word, fewer than it has. Contracts see them, and how many a whole word has: at most 8.
+/// The first bytes of a word, but not all. Contracts see them and the size of the whole word: at most 8 bytes.
 #[derive(Drop)]
 pub struct Part {
     bytes: TextBuffer<8>,
@@ -25,7 +25,7 @@ impl Model for Part {
 }
 
 impl Part {
-    /// No byte of a word of this size.
+    /// Returns no bytes of a word of this size.
     pub fn new(size: usize) -> Part
         requires some { 0 < size }
         requires most { size ≤ 8 }
@@ -37,14 +37,14 @@ impl Part {
         }
     }
 
-    /// How many bytes there are.
+    /// Counts the bytes.
     pub fn len(&self) -> usize
         ensures { result ≡ length self.now.bytes }
     {
         self.bytes.len()
     }
 
-    /// Whether there is no byte.
+    /// Whether there are no bytes.
     #[inline(always)]
     pub fn is_empty(&self) -> bool
         ensures { IsTrue result ↔ (self.now.bytes ≡ []) }
@@ -52,7 +52,7 @@ impl Part {
         self.bytes.is_empty()
     }
 
-    /// How many bytes the word lacks.
+    /// Counts the bytes that the word lacks.
     #[inline(always)]
     pub fn lacks(&self) -> usize
         ensures value { length self.now.bytes + result ≡ self.now.size }
@@ -62,7 +62,7 @@ impl Part {
         self.size - self.bytes.len()
     }
 
-    /// Keeps more bytes, with which the word is still not whole.
+    /// Keeps more bytes. The word is still not whole.
     pub fn keep(&mut self, piece: &[u8])
         requires { length self.old.bytes + length piece.now < self.old.size }
         ensures { self.new ≡ part_of (self.old.bytes ++ piece.now) self.old.size }

@@ -1,9 +1,9 @@
-//! The machine of words that are recoded.
+//! The machine that recodes words.
 
-ghost use Rattle.std.specs.Prelude.{◌≡◌, ◌<◌, ◌≤◌, ◌+◌, ◌++◌, [], List, false, ℕ, length};
+ghost use Rattle.std.specs.Prelude.{◌≡◌, ◌<◌, ◌≤◌, ◌+◌, ◌++◌, [], List, false, ℕ, length, take};
 ghost use Rattle.fixed_pack.specs.Part.{part_of};
 ghost use Rattle.fixed_pack.specs.Recoded.{EndsWord, MakesWords};
-ghost use Rattle.run_engine.specs.Machines.{Feeds, going};
+ghost use Rattle.run_engine.specs.Machines.{Feeds, Goes, going};
 ghost use Rattle.run_engine.specs.Seen.{moment};
 
 use crate::part::Part;
@@ -14,7 +14,7 @@ use run_engine::{Gathered, Halt, Machine, Streams};
 use std::sync::ledger::Ledger;
 use text_buffer::TextBuffer;
 
-/// The word that ended the input: its number, from 1, its bytes, and why.
+/// The word that ended the input: its number, from 1, its bytes, and the cause.
 #[derive(Drop)]
 pub struct RefusedWord<C> {
     pub number: u64,
@@ -22,22 +22,22 @@ pub struct RefusedWord<C> {
     pub cause: C,
 }
 
-/// Words that are recoded by a rule, up to the first that ends the input: what becomes of them, one after another.
+/// Recodes words by a rule, one after another, up to the first that ends the input.
 #[derive(Drop)]
 pub struct Recoder<R, W> {
     /// The rule.
     pub rule: R,
-    /// The first bytes of the word that is not whole.
+    /// The first bytes of the unfinished word.
     pub part: Part,
-    /// How many words were recoded; the count stays at the last value of u64.
+    /// The number of words so far. The count stays at the greatest `u64`.
     pub words: u64,
-    /// Whether a word was refused that did not end the input.
+    /// Whether a word was refused without ending the input.
     pub has_fault: bool,
     /// The observer of the words.
     pub watch: W,
 }
 
-/// The lesser of two counts.
+/// Returns the lesser of two counts.
 #[inline(always)]
 fn lesser(a: usize, b: usize) -> usize
     ensures first { result ≤ a }
@@ -47,7 +47,7 @@ fn lesser(a: usize, b: usize) -> usize
     if a < b { a } else { b }
 }
 
-/// The word that is refused.
+/// Returns the refused word.
 #[cold]
 fn refused_word<C: Copy>(number: u64, word: &[u8], cause: C) -> RefusedWord<C>
     requires { length word.now ≤ 8 }
@@ -65,7 +65,7 @@ fn refused_word<C: Copy>(number: u64, word: &[u8], cause: C) -> RefusedWord<C>
 }
 
 impl<R: Recode, W> Recoder<R, W> {
-    /// No word yet.
+    /// Returns a recoder before the first word.
     pub fn new(rule: R, watch: W) -> Recoder<R, W>
         ensures rule { result.rule ≡ rule }
         ensures part { result.part ≡ part_of [] (R.size rule) }
@@ -84,7 +84,7 @@ impl<R: Recode, W> Recoder<R, W> {
         }
     }
 
-    /// Recodes a whole word, and counts it.
+    /// Recodes a whole word and counts it.
     #[inline(always)]
     fn recode_word<L: Ledger>(
         &mut self,
@@ -117,7 +117,8 @@ impl<R: Recode, W> Recoder<R, W> {
         }
     }
 
-    /// Recodes the word that ends with this piece, and begins a new one. A word that is whole in it isn't copied.
+    /// Recodes the word that ends with this piece and begins a new one. A word that is whole in the piece is not
+    /// copied.
     #[inline(always)]
     fn end_word<L: Ledger>(
         &mut self,
@@ -143,7 +144,34 @@ impl<R: Recode, W> Recoder<R, W> {
         self.recode_word(word.as_bytes(), out, steps)
     }
 
-    /// Takes the next bytes, no more than the word lacks, and recodes it if it ends with them.
+    /// Recodes words from the front of some bytes at once, if no word was begun and the observer ignores words. Returns
+    /// the number of bytes of these words.
+    #[inline(always)]
+    fn recode_front<I: Streams, L: Ledger>(
+        &mut self,
+        bytes: &[u8],
+        out: &mut Gathered<I>,
+        _steps: &mut Steps<L>,
+    ) -> usize
+    where
+        W: WordWatch<R::Cause, L>,
+        ensures within { result ≤ length bytes.now }
+        ensures goes { (rule : R) (watch : W) (before made : List ℕ) (spent : ℕ)
+            → MakesWords (R.size rule) (R.Recodes rule) (R.Refuses rule) W.Saw rule watch before made spent going
+            self.old
+            → Goes (MakesWords (R.size rule) (R.Recodes rule) (R.Refuses rule) W.Saw rule watch) before made spent
+            (take result bytes.now) going self.new (moment (I.seen out.old.io) out.old.text _steps.old)
+            (moment (I.seen out.new.io) out.new.text _steps.new) }
+    {
+        if !self.part.is_empty() || !self.watch.is_blind() {
+            return 0;
+        }
+        let count = self.rule.recode_front(bytes, &mut out.text);
+        self.words = self.words.saturating_add(count as u64);
+        self.rule.count() * count
+    }
+
+    /// Takes the next bytes, no more than the word lacks, and recodes the word if it ends with them.
     #[inline(always)]
     fn push<I: Streams, L: Ledger>(
         &mut self,
@@ -190,6 +218,8 @@ impl<R: Recode, W: WordWatch<R::Cause, L>, L: Ledger> Machine<L> for Recoder<R, 
     ) -> Result<(), Halt<RefusedWord<R::Cause>>> {
         let mut rest = chunk;
         while rest.len() > 0 {
+            let front = self.recode_front(rest, out, steps);
+            rest = &rest[front..];
             let size = lesser(self.part.lacks(), rest.len());
             match self.push(&rest[..size], out, steps) {
                 Err(halt) => return Err(halt),

@@ -25,7 +25,7 @@ pub struct Repack {
     pub source: Format,
     /// The format of a word that is written.
     pub target: Format,
-    /// What is done with a number that is out of the target's range.
+    /// What to do with a number that is out of the target's range.
     pub policy: Policy,
     /// How a number is rounded on its way to the target.
     pub target_mode: ReadMode,
@@ -36,7 +36,7 @@ pub struct Repack {
 }
 
 impl Repack {
-    /// The image of bits of the source in the target, and whether the moved number was out of its range.
+    /// Returns the image of source bits in the target, and whether the moved number was out of its range.
     #[inline(always)]
     pub fn image(&self, bits: i128) -> Option<(i128, bool)>
         requires { IsInRange self.now.source.signed self.now.source.width bits }
@@ -50,7 +50,7 @@ impl Repack {
         reformat_mode(self.target, self.policy, self.target_mode, bits, from)
     }
 
-    /// The image of the number of a word of the source.
+    /// Returns the image of the number of a source word.
     #[inline(always)]
     fn word_image(&self, number: u64) -> Result<i128, WordRefusal>
         ensures image { MatchResult result (HasImage self.now number) (IsImageless self.now number) }

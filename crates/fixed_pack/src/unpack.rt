@@ -20,8 +20,8 @@ use fixed_write::push_shortest;
 use line_engine::Output;
 use std::sync::ledger::Ledger;
 
-/// How words are unpacked: each into the line that answers its text, in hexadecimal after `0x`. A word of more bits
-/// than the source has is refused, and so is one that has no image in the target; their lines say so.
+/// How words are unpacked: each into the line that answers its text, in hexadecimal after `0x`. A word with more bits
+/// than the source, or without an image in the target, is refused, and its line says so.
 #[derive(Clone, Copy, Debug, PartialEq, Eq)]
 pub struct UnpackRule {
     /// How a word is converted, as its text is. How a line spells a number does not matter.
@@ -30,7 +30,7 @@ pub struct UnpackRule {
     pub endian: Endian,
 }
 
-/// A format's fraction length.
+/// Returns a format's fraction length.
 pub(crate) fn frac_of(format: Format) -> u32
     ensures value { result ≡ format.frac }
     ensures most { result ≤ 64 }
@@ -39,7 +39,7 @@ pub(crate) fn frac_of(format: Format) -> u32
     format.frac()
 }
 
-/// Whether bits are their own image: those of a format in itself, but for the lowest number under `Symmetric`.
+/// Whether bits are their own image: from a format to the same one, except under `Symmetric`.
 fn keeps_bits(settings: &Settings) -> bool
     ensures source { result ≡ true → settings.now.source ≡ settings.now.target }
     ensures policy { result ≡ true → settings.now.policy ≢ Policy.Symmetric }
@@ -47,8 +47,8 @@ fn keeps_bits(settings: &Settings) -> bool
     settings.policy != Policy::Symmetric && settings.source == settings.target
 }
 
-/// Appends the part that is asked for of bits of the source, moved to the target; or, if they have no image there, the
-/// fault. Returns whether that is so. Bits of a format are their own image in it.
+/// Moves source bits to the target and appends the requested part, or the fault if they have no image there. Returns
+/// whether they have none. Bits of a format are their own image in it.
 #[inline]
 fn push_number<L: Ledger>(
     out: &mut Output,
@@ -75,12 +75,13 @@ fn push_number<L: Ledger>(
         &Shown {
             bits,
             overflowed: false,
+            is_exact: true,
         },
         steps,
     )
 }
 
-/// Appends the reply to the word that is this number, without a newline. Returns why it is refused, if it is.
+/// Appends the reply to the word with this number, without a newline. Returns the reason why it is refused, if it is.
 #[inline]
 fn push_reply<L: Ledger>(
     settings: &Settings,

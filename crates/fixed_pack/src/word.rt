@@ -1,6 +1,6 @@
 //! The bytes of a word.
 
-ghost use Rattle.std.specs.Prelude.{◌≡◌, ◌+◌, ◌^◌, ◌<◌, ◌≤◌, ◌++◌, MatchOption, if◌then◌else◌, length, reverse};
+ghost use Rattle.std.specs.Prelude.{◌≡◌, ◌+◌, ◌*◌, ◌^◌, ◌<◌, ◌≤◌, ◌++◌, MatchOption, if◌then◌else◌, length, reverse};
 ghost use Rattle.fixed_bits.specs.Numbers.{with_sign};
 ghost use Rattle.fixed_bits.specs.Ranges.{IsInRange};
 ghost use Rattle.fixed_command.specs.Hex.{word_of};
@@ -10,7 +10,7 @@ use crate::Endian;
 use fixed_bits::Format;
 use text_buffer::TextBuffer;
 
-/// How many bytes a word of a format has.
+/// Returns the length of a format's words in bytes.
 pub fn word_length(format: Format) -> usize
     ensures value { result ≡ word_length format.width }
     ensures some { 1 ≤ result }
@@ -19,7 +19,7 @@ pub fn word_length(format: Format) -> usize
     ((format.width() + 7) / 8) as usize
 }
 
-/// The bits of a format whose word is this number. `None` where it has a bit above the format's width.
+/// Returns the bits of a format whose word is this number. `None`: it has a bit above the format's width.
 pub fn word_bits(format: Format, number: u64) -> Option<i128>
     ensures { MatchOption result (2 ^ format.width ≤ number) (IsBitsOf format number) }
 {
@@ -34,7 +34,7 @@ pub fn word_bits(format: Format, number: u64) -> Option<i128>
     }
 }
 
-/// The first of two numbers, or the second, chosen without a branch.
+/// Returns the first or the second of two numbers, without a branch.
 #[inline(always)]
 fn chosen(is_first: bool, first: u64, second: u64) -> u64
     ensures { result ≡ (if is_first then first else second) }
@@ -42,7 +42,7 @@ fn chosen(is_first: bool, first: u64, second: u64) -> u64
     if is_first { first } else { second }
 }
 
-/// The word of a number in a format's range, by its sign and magnitude. The sign changes from word to word.
+/// Returns the word of a number in a format's range from its sign and magnitude. The sign changes from word to word.
 #[inline(always)]
 pub fn signed_word(format: Format, negative: bool, magnitude: u64) -> u64
     requires { IsInRange format.signed format.width (with_sign negative magnitude) }
@@ -93,7 +93,7 @@ fn push_high<const N: usize>(out: &mut TextBuffer<N>, count: usize, number: u64)
     }
 }
 
-/// Appends the last bytes of a number, in an order. Two, four or eight are one write.
+/// Appends the last bytes of a number in an order. Two, four or eight bytes are one write.
 #[inline(always)]
 pub fn push_word<const N: usize>(out: &mut TextBuffer<N>, endian: Endian, count: usize, number: u64)
     requires room { length out.old + count ≤ N }
@@ -109,7 +109,16 @@ pub fn push_word<const N: usize>(out: &mut TextBuffer<N>, endian: Endian, count:
     }
 }
 
-/// The number of bytes, of which there are at most 8, the least significant first.
+/// Counts the words of a size in bytes, at most as many as there is room for if each becomes eight bytes.
+pub fn words_within(bytes: usize, size: usize, room: usize) -> usize
+    requires { 0 < size }
+    ensures bytes { size * result ≤ bytes }
+    ensures room { 8 * result ≤ room }
+{
+    (bytes / size).min(room / 8)
+}
+
+/// Returns the number of at most 8 bytes, the least significant first.
 fn low_number(bytes: &[u8]) -> u64
     requires { length bytes.now ≤ 8 }
     ensures value { result ≡ low_number bytes.now }
@@ -121,7 +130,7 @@ fn low_number(bytes: &[u8]) -> u64
     }
 }
 
-/// The number of bytes, of which there are at most 8, the most significant first.
+/// Returns the number of at most 8 bytes, the most significant first.
 fn high_number(bytes: &[u8]) -> u64
     requires { length bytes.now ≤ 8 }
     ensures value { result ≡ low_number (reverse bytes.now) }
@@ -133,7 +142,7 @@ fn high_number(bytes: &[u8]) -> u64
     }
 }
 
-/// The number of two bytes, in an order.
+/// Returns the number of two bytes in an order.
 #[inline(always)]
 fn number_of_two(bytes: &[u8], endian: Endian) -> u64
     requires { length bytes.now ≡ 2 }
@@ -148,7 +157,7 @@ fn number_of_two(bytes: &[u8], endian: Endian) -> u64
     }
 }
 
-/// The number of four bytes, in an order.
+/// Returns the number of four bytes in an order.
 #[inline(always)]
 fn number_of_four(bytes: &[u8], endian: Endian) -> u64
     requires { length bytes.now ≡ 4 }
@@ -163,7 +172,7 @@ fn number_of_four(bytes: &[u8], endian: Endian) -> u64
     }
 }
 
-/// The number of eight bytes, in an order.
+/// Returns the number of eight bytes in an order.
 #[inline(always)]
 fn number_of_eight(bytes: &[u8], endian: Endian) -> u64
     requires { length bytes.now ≡ 8 }
@@ -177,7 +186,7 @@ fn number_of_eight(bytes: &[u8], endian: Endian) -> u64
     }
 }
 
-/// The number of bytes, of which there are at most 8, in an order. Two, four or eight are one read.
+/// Returns the number of at most 8 bytes in an order. Two, four or eight bytes are one read.
 #[inline(always)]
 pub fn word_number(bytes: &[u8], endian: Endian) -> u64
     requires { length bytes.now ≤ 8 }

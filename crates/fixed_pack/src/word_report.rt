@@ -1,4 +1,4 @@
-//! A report of words that are recoded: how they come through, and which has the greatest error.
+//! A report of recoded words: their outcomes, and the word with the greatest error.
 
 ghost use Rattle.std.specs.Prelude.{◌≤◌, length};
 
@@ -19,32 +19,33 @@ use std::alloc::Global;
 use std::sync::ledger::Ledger;
 use text_buffer::TextBuffer;
 
-/// A rule of words whose numbers are rounded. Contracts don't say what it answers.
+/// A rule of words whose numbers are rounded. Contracts do not describe its results.
 pub trait Rounds {
-    /// How a word comes through.
+    /// Returns the outcome of a word.
     fn outcome(&self, word: &[u8]) -> Outcome
         requires { length word.now ≤ 8 };
 
-    /// The exact value of a word that comes through, as a numeral of radix 16.
+    /// Returns the exact value of a word that is not refused, as a numeral of radix 16.
     fn numeral(&self, word: &[u8]) -> TextBuffer<48>
         requires { length word.now ≤ 8 };
 
-    /// The format that its number is rounded to, and how.
+    /// Returns the format that a word's number is rounded to, and the mode.
     fn rounding(&self) -> (Format, ReadMode);
 }
 
-/// How words came through, each way, and the one with the greatest error. Contracts don't say what it keeps.
+/// The outcomes of words and their counts, and the word with the greatest error. Contracts do not describe its
+/// contents.
 #[derive(Drop)]
 pub struct WordReport<R> {
     rule: R,
-    /// How many came through, each way.
+    /// The outcomes and their counts.
     pub tally: Tally,
-    /// The one with the greatest error.
+    /// The word with the greatest error.
     pub errors: ErrorReport,
 }
 
 impl<R: Rounds> WordReport<R> {
-    /// No word so far.
+    /// Returns a report before the first word.
     pub fn new(alloc: Global, rule: R) -> WordReport<R> {
         let (format, mode) = rule.rounding();
         WordReport {
@@ -88,8 +89,8 @@ fn push_exponent(out: &mut TextBuffer<48>, scale: u64, unit: u64)
     }
 }
 
-/// The bits of a float before its sign: of its fraction, of its exponent, and the scale at which its significand is the
-/// number itself.
+/// Returns the number of fraction bits and of exponent bits of a float, and the exponent at which its significand is
+/// the number itself.
 fn layout_bits(layout: FloatLayout) -> (u32, u32, u64)
     ensures fraction { result.0 ≤ 52 }
     ensures exponent { result.1 ≤ 11 }
@@ -100,7 +101,7 @@ fn layout_bits(layout: FloatLayout) -> (u32, u32, u64)
     }
 }
 
-/// A finite float as a numeral of radix 16, which has its exact value.
+/// Returns the exact value of a finite float as a numeral of radix 16.
 fn float_numeral(layout: FloatLayout, bits: u64) -> TextBuffer<48> {
     let (fraction_bits, exponent_bits, unit) = layout_bits(layout);
     let fraction = bits % (1 << fraction_bits);
@@ -148,7 +149,7 @@ impl Rounds for FloatWords {
     }
 }
 
-/// Bits of a format as a numeral of radix 16, which has their exact value.
+/// Returns the exact value of bits of a format as a numeral of radix 16.
 fn bits_numeral(bits: i128, frac: u32) -> TextBuffer<48> {
     let mut text = TextBuffer::new();
     if bits < 0 {
@@ -159,7 +160,7 @@ fn bits_numeral(bits: i128, frac: u32) -> TextBuffer<48> {
     text
 }
 
-/// Whether bits lose none of their places between two fraction lengths.
+/// Whether bits lose no places between two fraction lengths.
 fn keeps_places(bits: i128, from: u32, to: u32) -> bool
     requires { from ≤ 64 }
 {

@@ -63,7 +63,7 @@ pub float_never : (s : FloatWords) (bytes made : List ℕ) (c : Option WordRefus
 float_never s bytes made c k p q = has_bits_or_not s (number_of s.endian bytes) p.bits k p.are q
 
 -- ---- words
--- numbers in range that have one word are one
+-- numbers in range with the same word are the same number
 pub same_word : (signed : Bool) (n : ℕ) (a b : ℤ) → IsWidth n → IsInRange signed n a → IsInRange signed n b
     → word_of n a ≡ word_of n b → a ≡ b
 same_word signed n a b width p q e = by signed a b p q e

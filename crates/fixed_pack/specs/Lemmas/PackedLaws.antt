@@ -1,13 +1,12 @@
--- What is made of lines that are packed is determined.
+-- The text made of packed lines is determined.
 use Rattle.std.proofs.Common.{◌≡◌, ◌∙◌, ◌+◌, ℕ, List, [], ◌∷◌, ◌++◌, Bool, true, false, ap, append_assoc, length, refl}
 use Rattle.std.proofs.Common.{sym, subst, take}
 use Rattle.line_engine.proofs.Public.{ended_lines-append}
 use Rattle.line_engine.specs.Lines.{ended_lines, last_line, lines, unended}
 use Rattle.run_engine.specs.Machines.{Agree, How, going, finished, lacking, stopped}
-use Rattle.run_engine.specs.declared.refusals.RefusedLine.{RefusedLine}
 use Rattle.fixed_pack.specs.Lemmas.RecodedLaws.{both}
 use Rattle.fixed_pack.specs.Pack.{AreWordsOf}
-use Rattle.fixed_pack.specs.Packed.{MakesPacked, Packs, StopsAt}
+use Rattle.fixed_pack.specs.Packed.{MakesPacked, Packs, Refusal, StopsAt}
 use Rattle.fixed_pack.specs.Recoded.{capped}
 use Rattle.fixed_pack.specs.Word.{joined}
 use Rattle.fixed_pack.specs.declared.packer.Packer.{Packer}
@@ -30,7 +29,7 @@ module _ {C : Type 0} (P : List ℕ → List ℕ → Type 0) (F : List ℕ → C
   packs_one ls xs ys p q =
       p.text_is ∙ (ap joined (words_are_one P one ls p.words q.words p.are q.are) ∙ sym q.text_is)
 
-  -- no line of those that are packed is refused
+  -- none of the packed lines is refused
   none_among : (before : List (List ℕ)) (line : List ℕ) (after ts : List (List ℕ)) (c : C)
       → AreWordsOf P (before ++ line ∷ after) ts → F line c → ⊥
   none_among [] line after [] c are refused = are
@@ -62,48 +61,48 @@ module _ {C : Type 0} (P : List ℕ → List ℕ → Type 0) (F : List ℕ → C
       let s = split_one before line after then other rest ts us c d tail p.1 q.1 x y in
       record { before_is = both l k before then head s.before_is; line_is = s.line_is }
 
-  same_stop : (bytes made other : List ℕ) (late later : Bool) (r s : RefusedLine C) → late ≡ later
-      → (m : StopsAt P F bytes made late r) → (n : StopsAt P F bytes other later s)
-      → AreSame m.before m.line n.before n.line → (late ≡ later) × (made ≡ other) × (r ≡ s)
-  same_stop bytes made other late later r s e m n same =
-      let with : ℕ → List ℕ → C → RefusedLine C = λ k l c. record { number = k; line = l; cause = c } in
+  same_stop : (bytes made other : List ℕ) (late later : Bool) (r s : Refusal C) (k l : List ℕ) → late ≡ later
+      → (m : StopsAt P F bytes made late r k) → (n : StopsAt P F bytes other later s l)
+      → AreSame m.before m.line n.before n.line → (late ≡ later) × (made ≡ other) × (r ≡ s) × (k ≡ l)
+  same_stop bytes made other late later r s k l e m n same =
+      let with : ℕ → C → Refusal C = λ i c. record { number = i; cause = c } in
       let number : r.number ≡ s.number = m.is.number_is ∙ (ap (λ ls. capped (length ls + 1)) same.before_is
       ∙ sym n.is.number_is) in
-      let line : r.line ≡ s.line = m.is.line_is ∙ (ap (take 160) same.line_is ∙ sym n.is.line_is) in
       let cause : r.cause ≡ s.cause = cause_one n.line r.cause s.cause (subst (λ l. F l r.cause) same.line_is m.is.why)
       n.is.why in (
         e,
         packs_one n.before made other (subst (λ ls. Packs P ls made) same.before_is m.packs) n.packs,
-        ap (λ k. with k r.line r.cause) number ∙ (ap (λ l. with s.number l r.cause) line
-            ∙ ap (λ c. with s.number s.line c) cause),
+        ap (λ i. with i r.cause) number ∙ ap (λ c. with s.number c) cause,
+        m.is.kept_is ∙ (ap (take 160) same.line_is ∙ sym n.is.kept_is),
       )
 
   last_of : (x y : List ℕ) (ls : List (List ℕ)) → ls ≡ x ∷ [] → ls ≡ y ∷ [] → x ≡ y
   last_of x y ls p q = let same : x ∷ [] ≡ y ∷ [] = sym p ∙ q in cc
 
-  stops_one : (bytes made other : List ℕ) (late later : Bool) (r s : RefusedLine C) → StopsAt P F bytes made late r
-      → StopsAt P F bytes other later s → (late ≡ later) × (made ≡ other) × (r ≡ s)
-  stops_one bytes made other false false r s m n =
-      same_stop bytes made other false false r s refl m n
+  pub stops_one : (bytes made other : List ℕ) (late later : Bool) (r s : Refusal C) (k l : List ℕ)
+      → StopsAt P F bytes made late r k → StopsAt P F bytes other later s l
+      → (late ≡ later) × (made ≡ other) × (r ≡ s) × (k ≡ l)
+  stops_one bytes made other false false r s k l m n =
+      same_stop bytes made other false false r s k l refl m n
       (split_one m.before m.line m.after n.before n.line n.after m.packs.words n.packs.words r.cause s.cause
       (sym m.stands ∙ n.stands) m.packs.are n.packs.are m.is.why n.is.why)
-  stops_one bytes made other true true r s m n =
-      same_stop bytes made other true true r s refl m n (record {
+  stops_one bytes made other true true r s k l m n =
+      same_stop bytes made other true true r s k l refl m n (record {
         before_is = m.stands.0 ∙ sym n.stands.0;
         line_is = last_of m.line n.line (last_line (unended bytes)) m.stands.1 n.stands.1;
       })
-  stops_one bytes made other false true r s m n =
+  stops_one bytes made other false true r s k l m n =
       absurd (none_among m.before m.line m.after n.packs.words r.cause
       (subst (λ ls. AreWordsOf P ls n.packs.words) (n.stands.0 ∙ m.stands) n.packs.are) m.is.why)
-  stops_one bytes made other true false r s m n =
+  stops_one bytes made other true false r s k l m n =
       absurd (none_among n.before n.line n.after m.packs.words s.cause
       (subst (λ ls. AreWordsOf P ls m.packs.words) (m.stands.0 ∙ n.stands) m.packs.are) n.is.why)
 
   -- if each ended line is packed, only the last can be refused
-  only_last : (bytes made other : List ℕ) (late : Bool) (r : RefusedLine C) → Packs P (ended_lines bytes) made
-      → StopsAt P F bytes other late r → late ≡ true
-  only_last bytes made other true r p m = refl
-  only_last bytes made other false r p m = absurd (none_among m.before m.line m.after p.words r.cause
+  only_last : (bytes made other : List ℕ) (late : Bool) (r : Refusal C) (k : List ℕ) → Packs P (ended_lines bytes) made
+      → StopsAt P F bytes other late r k → late ≡ true
+  only_last bytes made other true r k p m = refl
+  only_last bytes made other false r k p m = absurd (none_among m.before m.line m.after p.words r.cause
       (subst (λ ls. AreWordsOf P ls p.words) m.stands p.are) m.is.why)
 
   first_of : (ls ms ts : List (List ℕ)) → AreWordsOf P (ls ++ ms) ts → (us : List (List ℕ)) × AreWordsOf P ls us
@@ -111,41 +110,48 @@ module _ {C : Type 0} (P : List ℕ → List ℕ → Type 0) (F : List ℕ → C
   first_of (l ∷ ls) ms [] are = absurd are
   first_of (l ∷ ls) ms (t ∷ ts) are = let rest = first_of ls ms ts are.1 in (t ∷ rest.0, (are.0, rest.1))
 
-  not_refused : (bytes made other : List ℕ) (late : Bool) (r : RefusedLine C) → Packs P (lines bytes) made
-      → StopsAt P F bytes other late r → ⊥
-  not_refused bytes made other false r p m =
+  not_refused : (bytes made other : List ℕ) (late : Bool) (r : Refusal C) (k : List ℕ) → Packs P (lines bytes) made
+      → StopsAt P F bytes other late r k → ⊥
+  not_refused bytes made other false r k p m =
       let some = first_of (ended_lines bytes) (last_line (unended bytes)) p.words p.are in
       none_among m.before m.line m.after some.0 r.cause (subst (λ ls. AreWordsOf P ls some.0) m.stands some.1) m.is.why
-  not_refused bytes made other true r p m =
+  not_refused bytes made other true r k p m =
       none_among (ended_lines bytes) m.line [] p.words r.cause
       (subst (λ ls. AreWordsOf P (ended_lines bytes ++ ls) p.words) m.stands.1 p.are) m.is.why
 
   module _ {Q : Type 0} (rule : Q) (a b : Packer Q) where
-    pub packed_one : (bytes made other : List ℕ) (spent cost : ℕ) (how then : How (RefusedLine C))
+    -- why a machine stopped, with the number that it keeps
+    abbrev refused : Packer Q → C → Refusal C
+    refused it why = record { number = it.lines; cause = why }
+
+    pub packed_one : (bytes made other : List ℕ) (spent cost : ℕ) (how then : How C)
         → MakesPacked P F rule bytes made spent how a → MakesPacked P F rule bytes other cost then b
         → Agree how made then other
     packed_one bytes made other spent cost going going p q = packs_one (ended_lines bytes) made other p.packs q.packs
     packed_one bytes made other spent cost going (finished g) p q = tt
     packed_one bytes made other spent cost going lacking p q = tt
-    packed_one bytes made other spent cost going (stopped late s) p q = only_last bytes made other late s p.packs q
+    packed_one bytes made other spent cost going (stopped late s) p q =
+        only_last bytes made other late (refused b s) b.kept p.packs q
     packed_one bytes made other spent cost (finished f) going p q = tt
     packed_one bytes made other spent cost (finished f) (finished g) p q =
         (packs_one (lines bytes) made other p.0 q.0, p.1 ∙ sym q.1)
     packed_one bytes made other spent cost (finished f) lacking p q = tt
     packed_one bytes made other spent cost (finished f) (stopped late s) p q =
-        absurd (not_refused bytes made other late s p.0 q)
+        absurd (not_refused bytes made other late (refused b s) b.kept p.0 q)
     packed_one bytes made other spent cost lacking then p q = tt
-    packed_one bytes made other spent cost (stopped late r) going p q = only_last bytes other made late r q.packs p
+    packed_one bytes made other spent cost (stopped late r) going p q =
+        only_last bytes other made late (refused a r) a.kept q.packs p
     packed_one bytes made other spent cost (stopped late r) (finished g) p q =
-        absurd (not_refused bytes other made late r q.0 p)
+        absurd (not_refused bytes other made late (refused a r) a.kept q.0 p)
     packed_one bytes made other spent cost (stopped late r) lacking p q = tt
     packed_one bytes made other spent cost (stopped late r) (stopped later s) p q =
-        stops_one bytes made other late later r s p q
+        let same = stops_one bytes made other late later (refused a r) (refused b s) a.kept b.kept p q in
+        let cause : r ≡ s = ap (λ (it : Refusal C). it.cause) same.2 in (same.0, same.1, cause)
 
--- a line that was refused stays so, whatever follows
+-- a line that was refused stays refused, whatever follows
 pub packed_stays : {C : Type 0} (P : List ℕ → List ℕ → Type 0) (F : List ℕ → C → Type 0) (bytes more text : List ℕ)
-    (r : RefusedLine C) → StopsAt P F bytes text false r → StopsAt P F (bytes ++ more) text false r
-packed_stays P F bytes more text r m = record {
+    (r : Refusal C) (k : List ℕ) → StopsAt P F bytes text false r k → StopsAt P F (bytes ++ more) text false r k
+packed_stays P F bytes more text r k m = record {
   before = m.before;
   line = m.line;
   after = m.after ++ ended_lines (unended bytes ++ more);

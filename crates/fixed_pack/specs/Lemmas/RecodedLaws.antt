@@ -13,7 +13,7 @@ pub both : {A : Type 0} (a b : A) (xs ys : List A) → a ≡ b → xs ≡ ys →
 both a b xs ys e f = ap (λ x. x ∷ xs) e ∙ ap (λ zs. b ∷ zs) f
 
 -- ---- bytes cut into words
-take_first : (w rest : List ℕ) → take (length w) (w ++ rest) ≡ w
+pub take_first : (w rest : List ℕ) → take (length w) (w ++ rest) ≡ w
 take_first [] rest = refl
 take_first (b ∷ bs) rest = ap (λ l. b ∷ l) (take_first bs rest)
 

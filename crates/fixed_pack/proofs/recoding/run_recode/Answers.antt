@@ -2,7 +2,7 @@ use Rattle.std.proofs.Common.{◌≡◌, ◌∙◌, ◌<◌, ℕ, [], ap, arith,
 use Rattle.std.proofs.lemmas.Grind.{common_steps}
 use Rattle.run_engine.specs.Run.{HasRun}
 use Rattle.run_engine.specs.Seen.{Seen, moment, seen_of}
-use Rattle.fixed_pack.specs.Pack.{most_bytes}
+use Rattle.fixed_command.specs.Limits.{limit_of}
 use Rattle.fixed_pack.specs.Part.{part_of}
 use Rattle.fixed_pack.specs.Recoded.{MakesWords}
 use Rattle.fixed_pack.proofs.RecodeLemmas.{nothing_recoded, run_as}
@@ -38,15 +38,15 @@ returns g c =
       held = c.run-end.new.out.text;
       source = m;
       sink = n;
-      run = subst (λ (r : g.row.R.Denot). HasRun (MakesWords (g.R.Recode.size r) (g.R.Recode.Recodes r) (g.R.Recode.Refuses r) g.W.WordWatch.Saw r c.args.watch) c.run-end.new.machine most_bytes
+      run = subst (λ (r : g.row.R.Denot). HasRun (MakesWords (g.R.Recode.size r) (g.R.Recode.Recodes r) (g.R.Recode.Refuses r) g.W.WordWatch.Saw r c.args.watch) c.run-end.new.machine (limit_of c.args.limit.now)
           (moment (seen c.args.source.now c.args.sink.now m n) [] c.args.steps.now)
           (moment (seen c.source-1.given.0 c.sink-1.given.0 m n) c.run-end.new.out.text c.run-end.new.steps) c.run-end.result) c.new-recoder.ensures.rule
-          (subst (λ (w : g.row.W.Denot). HasRun (MakesWords (g.R.Recode.size new.rule) (g.R.Recode.Recodes new.rule) (g.R.Recode.Refuses new.rule) g.W.WordWatch.Saw new.rule w) c.run-end.new.machine most_bytes
+          (subst (λ (w : g.row.W.Denot). HasRun (MakesWords (g.R.Recode.size new.rule) (g.R.Recode.Recodes new.rule) (g.R.Recode.Refuses new.rule) g.W.WordWatch.Saw new.rule w) c.run-end.new.machine (limit_of c.args.limit.now)
           (moment (seen c.args.source.now c.args.sink.now m n) [] c.args.steps.now)
           (moment (seen c.source-1.given.0 c.sink-1.given.0 m n) c.run-end.new.out.text c.run-end.new.steps) c.run-end.result) c.new-recoder.ensures.watch
-          (run_as (MakesWords (g.R.Recode.size new.rule) (g.R.Recode.Recodes new.rule) (g.R.Recode.Refuses new.rule) g.W.WordWatch.Saw new.rule new.watch) c.run-end.new.machine most_bytes
+          (run_as (MakesWords (g.R.Recode.size new.rule) (g.R.Recode.Recodes new.rule) (g.R.Recode.Refuses new.rule) g.W.WordWatch.Saw new.rule new.watch) c.run-end.new.machine (limit_of c.args.limit.now)
           a (seen c.args.source.now c.args.sink.now m n) b (seen c.source-1.given.0 c.sink-1.given.0 m n)
-          c.new-out.result.text c.run-end.new.out.text c.args.steps.now c.run-end.new.steps c.run-end.result before after c.new-out.ensures.text c.run-end.ensures));
+          c.new-out.result.text c.run-end.new.out.text c.args.steps.now c.run-end.new.steps c.run-end.result before after c.new-out.ensures.text (subst (λ limit. HasRun (MakesWords (g.R.Recode.size new.rule) (g.R.Recode.Recodes new.rule) (g.R.Recode.Refuses new.rule) g.W.WordWatch.Saw new.rule new.watch) c.run-end.new.machine limit (moment a c.new-out.result.text c.args.steps.now) (moment b c.run-end.new.out.text c.run-end.new.steps) c.run-end.result) c.bytes_within.ensures.value c.run-end.ensures)));
       over = c.len.ensures;
       watched = refl;
     }

@@ -4,7 +4,8 @@ use Rattle.std.specs.Prelude.{Err}
 use Rattle.run_engine.proofs.Public.{goes_breaks, goes_none}
 use Rattle.run_engine.specs.LineRun.{one_more}
 use Rattle.run_engine.specs.Seen.{moment}
-use Rattle.fixed_pack.specs.Packed.{Appends, EndsLine, MakesPacked}
+use Rattle.fixed_pack.specs.Inner.Packing.{EndsLine}
+use Rattle.fixed_pack.specs.Packed.{Appends, MakesPacked}
 use Rattle.fixed_pack.proofs.PackLemmas.{last_goes, last_halts}
 use Rattle.fixed_pack.proofs.packer.PackerPieces.finish.Goals as goal
 
@@ -22,7 +23,7 @@ returns-in-Err-end_line g c = λ first bytes made spent makes.
     last_halts (g.R.Pack.Packs first.rule) (g.R.Pack.Refuses first.rule) first.rule old bytes made spent makes some c.end_line.new.self
     (g.I.Streams.seen c.args.out.now.io) (g.I.Streams.seen c.make_room.new.self.io) c.args.out.now.text c.make_room.new.self.text c.end_line.new.out c.args.steps.now c.end_line.new.steps
     c.in-Err-end_line.halt c.in-Ok.ensures.ok
-    (subst (λ r. EndsLine (g.R.Pack.Packs r) (g.R.Pack.Refuses r) (old.line.items ++ []) (one_more old.lines) c.make_room.new.self.text c.end_line.new.out (Err c.in-Err-end_line.halt)) makes.rule_is c.in-Err-end_line.ensures.ended)
+    (subst (λ r. EndsLine (g.R.Pack.Packs r) (g.R.Pack.Refuses r) (old.line.items ++ []) (one_more old.lines) c.make_room.new.self.text c.end_line.new.out c.end_line.new.self.lines c.end_line.new.self.kept (Err c.in-Err-end_line.halt)) makes.rule_is c.in-Err-end_line.ensures.ended)
 
 pub returns-in-Ok-end_line : goal.returns-in-Ok-end_line
 returns-in-Ok-end_line g c = λ first bytes made spent makes.

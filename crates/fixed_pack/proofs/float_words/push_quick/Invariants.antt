@@ -1,0 +1,15 @@
+use Rattle.std.proofs.Common.{◌+◌, ◌-◌, ◌*◌, ◌≤◌, length}
+use Rattle.fixed_pack.specs.Floats.{IsFloatWord}
+use Rattle.fixed_pack.proofs.RecodeLemmas.{Leaves}
+use Rattle.fixed_pack.proofs.float_words.push_quick.Given as goal
+
+abbrev pub invariant-loop-left : goal.invariant-loop-left
+invariant-loop-left l = record {
+  front : Leaves l.size (IsFloatWord l.floats) l.bytes l.initial.out l.out (l.most - l.left) l.rest;
+  within : l.left ≤ l.most;
+  long : l.size * l.left ≤ length l.rest;
+  room : length l.out + 8 * l.left ≤ 8192;
+}
+
+abbrev pub decreases-loop-left : goal.decreases-loop-left
+decreases-loop-left l = l.left
