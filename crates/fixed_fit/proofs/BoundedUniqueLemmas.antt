@@ -1,4 +1,4 @@
--- An input has one answer within a bound.
+-- An input has at most one answer within a bound.
 use Rattle.std.proofs.Common.{◌≡◌, ℕ, ◌<◌, ◌≤◌, ◌⊎◌, Bool, true, false, List, ◌∷◌, ◌++◌, refl, sym, ap, ◌∙◌, subst, arith, inl, inr, ⊎_elim}
 use Rattle.std.proofs.lemmas.Bool.{cases_lt}
 use Rattle.std.specs.Prelude.{codes}
@@ -6,8 +6,9 @@ use Rattle.fixed_least.specs.Holding.{AllNumerals}
 use Rattle.fixed_least.specs.Lemmas.LeastLemmas.{answer_one}
 use Rattle.line_engine.specs.AnswerText.{AnswerText}
 use Rattle.line_engine.specs.Lines.{lines}
-use Rattle.fixed_fit.specs.Answer.{IsReason, format_of, name_of}
-use Rattle.fixed_fit.specs.Bounded.{IsBoundedFound, IsBoundedNone, IsWidthReason, at_width, none_line, width_line}
+use Rattle.fixed_fit.specs.Answer.{IsReason, format_of, name_of, none_line}
+use Rattle.fixed_fit.specs.Bounded.{IsBoundedFound, IsBoundedNone, IsWidthReason, at_width, width_line}
+use Rattle.fixed_fit.specs.Fitting.{choice}
 use Rattle.fixed_fit.specs.Inner.Serving.{IsBelow}
 use Rattle.fixed_fit.specs.ErrorWord.{IsErrorWord}
 use Rattle.fixed_fit.specs.Laws.{BoundedAnswerIsTheOne, WidthReasonIsTheOne}
@@ -36,12 +37,12 @@ width_reason_is_the_one q widths bound s list n t u tried x y =
     by true e next =
         let a = x.next e below.0 next in
         let b = y.next e below.0 next in
-        a.2 ∙ (ap (λ (p : ℕ). width_line below.0 p) (first_unserved_is_the_one q.is_range q.radix s bound One below.0 list a.0 b.0 a.1 b.1) ∙ sym b.2)
+        a.2 ∙ (ap (λ (p : ℕ). width_line below.0 p) (first_unserved_is_the_one q.is_range q.radix (choice s q.fractions) bound One below.0 list a.0 b.0 a.1 b.1) ∙ sym b.2)
 
 found_one : (q : Question) (widths : Widths) (bound : List ℕ) (list : List (List ℕ)) (a b : AnswerText) → IsBoundedFound q widths bound list a → IsBoundedFound q widths bound list b → a ≡ b
 found_one q widths bound list a b x y =
     let s : x.signed ≡ y.signed = sign_rule_is_the_one q.radix q.kind.signed x.signed y.signed list x.sign y.sign in
-    let same = least_within_is_the_one q.is_range q.radix y.signed bound widths q.kind.width list x.width y.width x.frac y.frac (subst (λ t. IsLeastWithin q.is_range q.radix t bound widths q.kind.width list x.width x.frac) s x.least) y.least in
+    let same = least_within_is_the_one q.is_range q.radix (choice y.signed q.fractions) bound widths q.kind.width list x.width y.width x.frac y.frac (subst (λ t. IsLeastWithin q.is_range q.radix (choice t q.fractions) bound widths q.kind.width list x.width x.frac) s x.least) y.least in
     let E : Bool → ℕ → ℕ → Type 0 = λ t n f. IsErrorWord q.is_range q.radix (format_of t n f) list x.error in
     let e : E y.signed y.width y.frac = subst (λ f. E y.signed y.width f) same.1 (subst (λ n. E y.signed n x.frac) same.0 (subst (λ t. E t x.width x.frac) s x.is_error)) in
     let w : x.error ≡ y.error = word_one q.is_range q.radix (format_of y.signed y.width y.frac) list x.error y.error e y.is_error in
@@ -62,14 +63,14 @@ found_one q widths bound list a b x y =
 none_one : (q : Question) (widths : Widths) (bound : List ℕ) (list : List (List ℕ)) (a b : AnswerText) → IsBoundedNone q widths bound list a → IsBoundedNone q widths bound list b → a ≡ b
 none_one q widths bound list a b x y =
     let s : x.signed ≡ y.signed = sign_rule_is_the_one q.radix q.kind.signed x.signed y.signed list x.sign y.sign in
-    let p : x.place ≡ y.place = first_unserved_is_the_one q.is_range q.radix y.signed bound widths q.kind.width list x.place y.place (subst (λ t. IsUnservedFrom q.is_range q.radix t bound widths q.kind.width list x.place) s x.first) y.first in
+    let p : x.place ≡ y.place = first_unserved_is_the_one q.is_range q.radix (choice y.signed q.fractions) bound widths q.kind.width list x.place y.place (subst (λ t. IsUnservedFrom q.is_range q.radix (choice t q.fractions) bound widths q.kind.width list x.place) s x.first) y.first in
     answer_is a b (x.text ∙ (ap none_line p ∙ sym y.text)) (x.fault ∙ sym y.fault)
 
 found_not_none : (q : Question) (widths : Widths) (bound : List ℕ) (list : List (List ℕ)) (a b : AnswerText) → IsBoundedFound q widths bound list a → IsBoundedNone q widths bound list b → ⊥
 found_not_none q widths bound list a b x y =
     let s : x.signed ≡ y.signed = sign_rule_is_the_one q.radix q.kind.signed x.signed y.signed list x.sign y.sign in
-    let least : IsLeastWithin q.is_range q.radix y.signed bound widths q.kind.width list x.width x.frac = subst (λ t. IsLeastWithin q.is_range q.radix t bound widths q.kind.width list x.width x.frac) s x.least in
-    unserved_not q.is_range q.radix y.signed bound widths q.kind.width list y.place y.first (record { width = x.width; tried = least.tried; frac = x.frac; serves = least.serves })
+    let least : IsLeastWithin q.is_range q.radix (choice y.signed q.fractions) bound widths q.kind.width list x.width x.frac = subst (λ t. IsLeastWithin q.is_range q.radix (choice t q.fractions) bound widths q.kind.width list x.width x.frac) s x.least in
+    unserved_not q.is_range q.radix (choice y.signed q.fractions) bound widths q.kind.width list y.place y.first (record { width = x.width; tried = least.tried; frac = x.frac; serves = least.serves })
 
 numerals_of : (q : Question) (widths : Widths) (bound : List ℕ) (list : List (List ℕ)) (a : AnswerText) → IsBoundedFound q widths bound list a ⊎ IsBoundedNone q widths bound list a → AllNumerals q.radix list
 numerals_of q widths bound list a (inl x) = x.numerals

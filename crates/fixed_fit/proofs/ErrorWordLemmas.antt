@@ -1,4 +1,4 @@
--- The size of an error as it is written.
+-- The size of the greatest error, as it is written.
 use Rattle.std.proofs.Common.{◌≡◌, ℕ, suc, ◌+◌, ◌≤◌, ◌↔◌, ◌==◌, Bool, true, false, IsTrue, if◌then◌else◌, List, [], ◌∷◌, ◌++◌, length, append_assoc, refl, sym, ap, ◌∙◌, subst, arith, inl, inr, ℤ}
 use Rattle.std.specs.Prelude.{codes}
 use Rattle.fixed_bits.specs.Formats.{FormatParts}
@@ -51,7 +51,7 @@ size_appended r f numeral start signed text before after true empty fits shown n
       short = omega (arith, ap length is, length_without signed, ap length same, a.short);
     }
 
--- ---- it is the one
+-- ---- the text of an error's size is unique
 not_out : (s : Bool) (n : ℕ) (v : ℤ) (o : Bool) → IsInRange s n v → (IsTrue o ↔ IsOutOfRange s n v) → o ≡ false
 not_out s n v false inside flag = refl
 not_out s n v true inside flag = absurd ((range_decided s n v).1 (flag.0 refl) inside)
@@ -111,7 +111,7 @@ pub no_entries : (lines : List (List ℕ)) → entries_from 1 lines ≡ [] → l
 no_entries [] e = refl
 no_entries (line ∷ lines) e = cc
 
--- ---- one line more
+-- ---- one more line
 pub entries_longer : (p : ℕ) (done : List (List ℕ)) (line : List ℕ) → entries_from p (done ++ line ∷ []) ≡ entries_from p done ++ record { place = length done + p; numeral = line } ∷ []
 entries_longer p [] line = let at : p ≡ 0 + p = omega arith in ap (λ (k : ℕ). record { place = k; numeral = line } ∷ []) at
 entries_longer p (first ∷ done) line =
@@ -119,7 +119,7 @@ entries_longer p (first ∷ done) line =
     let at : length done + suc p ≡ suc (length done) + p = omega arith in
     ap (λ (l : List Entry). record { place = p; numeral = first } ∷ l) (later ∙ ap (λ (k : ℕ). entries_from (suc p) done ++ record { place = k; numeral = line } ∷ []) at)
 
--- ---- what is appended
+-- ---- the appended text
 pub kept_first : (r : Radix) (f : ℕ) (entries : List Entry) (g : GreatestError) → IsGreatestAt r f entries g → g.is_some ≡ true → IsFirstGreatest NearestEven r f entries g.place g.numeral.items
 kept_first r f entries g h some =
     let a : IsKept g.mode g.radix g.frac entries true g.place g.numeral.items = subst (λ (b : Bool). IsKept g.mode g.radix g.frac entries b g.place g.numeral.items) some h.greatest.kept in
@@ -164,6 +164,6 @@ size_fits r f g lines e numeral same at some here all =
     let fits : Fits r g.signed g.width g.frac e.numeral.items = greatest_fits r g.signed g.width g.frac e.place lines e.numeral.items (kept_first r g.frac (entries_from 1 lines) e at some) all in
     subst (λ (l : List ℕ). Fits r f.signed f.width f.frac l) (sym here) (subst (λ (x : FormatParts). Fits r x.signed x.width x.frac e.numeral.items) (sym same) fits)
 
--- the bytes of an answer
+-- the text of an answer, piece by piece
 pub pieces : (name error reason a b d e l : List ℕ) → a ≡ [] ++ name → b ≡ a ++ codes " error " → d ≡ b ++ error → e ≡ d ++ 10 ∷ [] → l ≡ e ++ reason → l ≡ name ++ (codes " error " ++ (error ++ 10 ∷ reason))
 pieces name error reason a b d e l p q x y z = rw (z, y, x, q, p) (simp append_assoc)

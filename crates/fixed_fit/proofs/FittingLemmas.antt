@@ -19,9 +19,10 @@ use Rattle.fixed_read.proofs.Public.{read_number_is_the_one, read_unique}
 use Rattle.fixed_fit.specs.Fitting.{AllFit, Exceeds, Fits, IsFirstExceeding}
 use Rattle.fixed_fit.specs.Inner.Lengths.{AreLengths, AreLowered}
 use Rattle.fixed_fit.specs.declared.lengths.Lengths.{Lengths}
+use Rattle.fixed_fit.specs.declared.question.Fractions.{Fractions}
 use Rattle.fixed_fit.specs.Laws.{FitsEachShorter, AllFitEachShorter, FinestIsTheOne, SignRuleIsTheOne}
 
--- the nearest whole number of a smaller fraction is not above that of a greater one
+-- the nearest whole number to a smaller fraction is at most that to a greater one
 tie_of : (num den q : ℕ) → 2 * num + den ≡ 2 * (q * den) → 2 * distance num (q * den) ≡ den
 tie_of num den q e = omega (arith, e)
 
@@ -61,7 +62,7 @@ range_shrinks true n false a b order h = record { low = omega (arith, ints, pow_
 range_shrinks false n true a b order h = record { low = omega (arith, ints, h.low, order); high = omega (arith, ints, pow_pos n) }
 range_shrinks false n false a b order h = record { low = omega (arith, ints); high = omega (arith, ints, h.high, order) }
 
--- a read number with a shorter fraction length is in range
+-- a numeral in range stays in range if read with a shorter fraction length
 shorter : (r : Radix) (p : Parts) (s : Bool) (n f g : ℕ) (v w : ℤ) → g ≤ f → IsReadNumber NearestEven r p f v → IsReadNumber NearestEven r p g w → IsInRange s n v → IsInRange s n w
 shorter r p s n f g v w order x y h =
     let num : ℕ = (magnitude r p).num in
@@ -99,11 +100,11 @@ exceeding_not r s n f lines place h all =
     not_both r s n f h.line (fit_at r s n f h.before h.line h.after (subst P h.split all)) h.exceeds
 
 pub finest_is_the_one : FinestIsTheOne
-finest_is_the_one r s n f g lines a b =
+finest_is_the_one r c n f g lines a b =
     ⊎_elim
-    (λ (less : f < g). absurd (a.greatest g less b.within b.fit))
+    (λ (less : f < g). absurd (a.greatest g less b.chosen b.fit))
     (λ (more : g ≤ f). ⊎_elim
-    (λ (less : g < f). absurd (b.greatest f less a.within a.fit))
+    (λ (less : g < f). absurd (b.greatest f less a.chosen a.fit))
     (λ (same : f ≤ g). omega (arith, more, same))
     (cases_lt g f))
     (cases_lt f g)
@@ -116,7 +117,7 @@ sign_rule_is_the_one r asked true false lines (inr a) b = absurd (b.1 a)
 sign_rule_is_the_one r asked false true lines b (inl a) = let no : true ≡ false = sym a ∙ b.0 in cc
 sign_rule_is_the_one r asked false true lines b (inr a) = absurd (b.1 a)
 
--- ---- one line more
+-- ---- one more line
 pub fit_one_more : (r : Radix) (s : Bool) (n f : ℕ) (done : List (List ℕ)) (line : List ℕ) → AllFit r s n f done → Fits r s n f line → AllFit r s n f (done ++ line ∷ [])
 fit_one_more r s n f [] line all here = (here, tt)
 fit_one_more r s n f (first ∷ done) line all here = (all.0, fit_one_more r s n f done line all.1 here)
@@ -132,16 +133,18 @@ exceeding_longer r s n f done line place h = record {
   place_is = h.place_is;
 }
 
-pub lengths_one_more : (r : Radix) (done : List (List ℕ)) (line : List ℕ) (place : ℕ) (old new : Lengths) → place ≡ length done + 1 → AreLengths r done old → AreLowered r line place old new → AreLengths r (done ++ line ∷ []) new
-lengths_one_more r done line place old new at h low = subst P (sym low.kind) known
+pub lengths_one_more : (a : Fractions) (r : Radix) (done : List (List ℕ)) (line : List ℕ) (place : ℕ) (old new : Lengths) → place ≡ length done + 1 → AreLengths a r done old → AreLowered r line place old new → AreLengths a r (done ++ line ∷ []) new
+lengths_one_more a r done line place old new at h low = subst P (sym low.kind) known
   where
     P : FormatParts → Type 0
-    P k = AreLengths r (done ++ line ∷ []) (record { kind = k; count = new.count; place = new.place })
+    P k = AreLengths a r (done ++ line ∷ []) (record { kind = k; count = new.count; place = new.place })
 
     known : P old.kind
     known = record {
       most = omega (arith, low.fewer, h.most);
+      few = omega (arith, low.fewer, h.few);
       fit = λ f less. fit_one_more r old.kind.signed old.kind.width f done line (h.fit f (omega (arith, less, low.fewer))) (low.fit f less);
+      never = λ none. let same : new.count ≡ old.count = omega (arith, low.fewer, h.most, none) in low.same same ∙ h.never none;
       first = λ within. ⊎_elim
           (λ (fewer : new.count < old.count). record {
             before = done;
@@ -161,7 +164,7 @@ lengths_one_more r done line place old new at h low = subst P (sym low.kind) kno
           (cases_lt new.count old.count);
     }
 
--- ---- by one reading
+-- ---- the result of one reading
 pub fits_by : (r : Radix) (line : List ℕ) (k : FormatParts) (found : ReadNumber) (out : Bool) → IsNumeral r line → found.format ≡ k → ((p : Parts) → HasNumeral r line p → IsReading NearestEven r p found)
     → ((v : ℤ) → IsNumber (number_in found) v → IsTrue out ↔ IsOutOfRange found.format.signed found.format.width v) → not out ≡ true → Fits r k.signed k.width k.frac line
 fits_by r line k found false numeral at reading range is = subst P at known
@@ -190,12 +193,12 @@ exceeds_by r line k found true numeral at reading range is = subst P at known
     known = record { parts = numeral.0; has = numeral.1; number = x.number; read = x.read; out_of_range = (range x.number x.holds).0 refl }
 exceeds_by r line k found false numeral at reading range is = let no : true ≡ false = is in cc
 
--- with the greatest fraction length below a count it fits each below the count
+-- a line that fits the greatest fraction length below a count fits each length below it
 pub below_count : (r : Radix) (s : Bool) (n count : ℕ) (line : List ℕ) → ((f : ℕ) → f + 1 ≡ count → Fits r s n f line) → (f : ℕ) → f < count → Fits r s n f line
 below_count r s n zero line last f less = absurd (omega (arith, less))
 below_count r s n (suc top) line last f less = fits_each_shorter r s n top f line (omega (arith, less)) (last top (omega arith))
 
--- what a line leaves: the lengths as they were, and fewer
+-- a line leaves the lengths as they were, or fewer
 pub not_lowered : (r : Radix) (line : List ℕ) (place : ℕ) (old : Lengths) (left : ℕ) → left ≡ old.count → ((f : ℕ) → f + 1 ≡ left → Fits r old.kind.signed old.kind.width f line) → AreLowered r line place old old
 not_lowered r line place old left same fits = record {
   kind = refl;

@@ -1,4 +1,4 @@
--- Half an ulp beside a bound.
+-- Whether half an ulp is within a bound, from readings of the bound.
 use Rattle.std.proofs.Common.{◌≡◌, ℕ, ◌+◌, ◌-◌, ◌*◌, ◌^◌, ◌<◌, ◌≤◌, Bool, true, false, List, [], refl, sym, ap, ◌∙◌, subst, arith, ⊎_elim, mul-le-mul_right}
 use Rattle.std.proofs.lemmas.Bool.{cases_lt, false≢true}
 use Rattle.std.proofs.lemmas.Nat.{pow-add}
@@ -16,7 +16,7 @@ use Rattle.fixed_read.specs.declared.read_number.ReadNumber.{ReadNumber}
 use Rattle.fixed_fit.specs.Within.{IsErrorWithin, IsHalfWithin}
 use Rattle.fixed_fit.proofs.NumeralLemmas.{no_high, not_high, ulps_of}
 
--- ---- by numbers
+-- ---- comparisons of products
 less_of : (a b d : ℕ) → a * d < b * d → a < b
 less_of a b d less =
     ⊎_elim
@@ -37,7 +37,7 @@ twice m up = omega arith
 doubled : (m f : ℕ) → m * 2 ^ (f + 1) ≡ 2 * (m * 2 ^ f)
 doubled m f = ap (λ (u : ℕ). m * u) (pow-add 2 f 1) ∙ twice m (2 ^ f)
 
--- x parts of d, less than d, beside the d - x that are missing
+-- x of d parts are d - x parts from a whole
 missing : (x d : ℕ) → x < d → distance x (1 * d) ≡ d - x
 missing x d less = omega (arith, less)
 
@@ -60,7 +60,7 @@ missing_above m f less h =
     let is : x < distance x (1 * m.den) = less_of x (distance x (1 * m.den)) m.den whole in
     omega (arith, is, e, less)
 
--- ---- half an ulp within the bound, and above it
+-- ---- half an ulp within a bound, or above it
 half_within : (r : Radix) (f : ℕ) (bound : List ℕ) (p : Parts) → HasNumeral r bound p → (magnitude r p).den ≤ 2 * ((magnitude r p).num * 2 ^ f) → IsHalfWithin r f bound
 half_within r f bound p at least = let e = doubled (magnitude r p).num f in record { parts = p; numeral = at; at_most = omega (arith, least, e) }
 
@@ -71,7 +71,7 @@ half_above r f bound p at less h =
     let e = doubled (magnitude r p).num f in
     omega (arith, less, here, e)
 
--- ---- an ulp and more
+-- ---- a bound of an ulp or more
 at_least_one : (r : Radix) (p : Parts) (found : ReadNumber) (x : IsReading TowardsZero r p found) → ¬ ((found.low ≡ 0) × (found.has_high_bits ≡ false)) → 0 < x.read.ulps
 at_least_one r p found x some =
     ⊎_elim
@@ -91,7 +91,7 @@ many_within r f bound p found at same x some =
     let most : x.read.ulps * m.den ≤ m.num * 2 ^ f = subst (λ (g : ℕ). x.read.ulps * m.den ≤ m.num * 2 ^ g) same x.read.rounded.at_most in
     half_within r f bound p at (omega (arith, one, most))
 
--- ---- less than an ulp
+-- ---- a bound below an ulp
 below_ulp : (r : Radix) (f : ℕ) (p : Parts) (found : ReadNumber) → found.format.frac ≡ f → (x : IsReading TowardsZero r p found) → (found.low ≡ 0) × (found.has_high_bits ≡ false) → (magnitude r p).num * 2 ^ f < (magnitude r p).den
 below_ulp r f p found same x none =
     let m = magnitude r p in
@@ -125,7 +125,7 @@ some_part r f p found same x exact =
     false≢true (sym exact ∙ x.exact.1 (0, omega (arith, none, e)))))
     (cases_lt 0 (m.num * 2 ^ f))
 
--- ---- rounded away from zero it is one ulp
+-- ---- a bound below an ulp, rounded away from zero, is one ulp
 to_away : (mode : ReadMode) (negative : Bool) (num den q : ℕ) → (negative ≡ true → mode ≡ Floor) → (negative ≡ false → mode ≡ Ceil) → IsNotBelow num den q → IsRounded mode negative num den q
 to_away mode true num den q below above h = subst (λ (m : ReadMode). IsRounded m true num den q) (sym (below refl)) h
 to_away mode false num den q below above h = subst (λ (m : ReadMode). IsRounded m false num den q) (sym (above refl)) h
@@ -161,7 +161,7 @@ read_within r f bound p found mode at same x none exact below above =
       within = omega arith;
     }
 
--- the error of the bound itself, rounded so
+-- the error of the bound itself in this mode
 size_of : (r : Radix) (f : ℕ) (bound : List ℕ) (p : Parts) (found : ReadNumber) (mode : ReadMode) (size : Fraction) → HasNumeral r bound p → found.format.frac ≡ f → (x : IsReading TowardsZero r p found) → (found.low ≡ 0) × (found.has_high_bits ≡ false) → found.exact ≡ false
     → (found.negative ≡ true → mode ≡ Floor) → (found.negative ≡ false → mode ≡ Ceil) → HasErrorSize mode r f bound size → size ≡ error_size (magnitude r p) f 1
 size_of r f bound p found mode size at same x none exact below above h =

@@ -13,7 +13,7 @@ use Rattle.fixed_read.specs.Reading.{IsReadNumber}
 use Rattle.fixed_fit.specs.ErrorWord.{half_ulp}
 use Rattle.fixed_fit.specs.Fitting.{Fits}
 
--- zeros, and the digits after the point
+-- the digits after the point: zeros, then a one
 abbrev pub zeros : ℕ → List ℕ
 zeros k = replicate k 48
 
@@ -69,7 +69,7 @@ zero_in_range false n = record { low = omega (arith, ints); high = omega (arith,
 pub half_fits : (s : Bool) (n k : ℕ) → Fits Bin s n k (half_ulp k)
 half_fits s n k = record { parts = parts k; has = has_parts k; number = pos 0; read = read_zero k; in_range = zero_in_range s n }
 
--- ---- its text
+-- ---- the text of half an ulp
 zero_more : (k : ℕ) → zeros k ++ 48 ∷ [] ≡ zeros (suc k)
 zero_more zero = refl
 zero_more (suc k) = ap (λ (l : List ℕ). 48 ∷ l) (zero_more k)

@@ -1,4 +1,4 @@
--- A short decimal that changes nothing: it is in range with each length that is left, and its error is within the bound.
+-- A short decimal that changes nothing: in range with each remaining length, and with its error within the bound.
 use Rattle.std.proofs.Common.{◌≡◌, ℕ, ◌+◌, ◌*◌, ◌^◌, ◌<◌, ◌≤◌, Bool, true, false, List, [], ◌∷◌, ◌++◌, length, sym, ◌∙◌, subst, arith, ap, ⊎_elim, mul-le-mul_right, ◌⊎◌, inl, inr, pos, refl}
 use Rattle.std.proofs.lemmas.Bool.{cases_lt}
 use Rattle.fixed_bits.specs.Nearest.{IsNearest, distance}
@@ -11,7 +11,8 @@ use Rattle.fixed_numeral.specs.declared.radix.Radix.{Radix}
 use Rattle.fixed_numeral.specs.declared.short.ShortNumeral.{ShortNumeral}
 use Rattle.fixed_numeral.proofs.Public.{magnitude_pos}
 use Rattle.fixed_read.proofs.Public.{read_number_is_the_one}
-use Rattle.fixed_fit.specs.Inner.Lengths.{IsFlatDecimal, IsRoomOf}
+use Rattle.fixed_fit.specs.Fitting.{Choice}
+use Rattle.fixed_fit.specs.Inner.Lengths.{IsFlatDecimal, IsRoomOf, IsWholeFraction}
 use Rattle.fixed_fit.specs.Inner.Serving.{AreAllLeft, AreAllLowered, AreSurelyLeft, HasServing, HaveRoom, IsIn, most_left}
 use Rattle.fixed_fit.specs.Within.{IsErrorWithin, IsHalfWithin, IsLeastWithin, Serves}
 use Rattle.fixed_fit.specs.declared.lengths.Lengths.{Lengths}
@@ -24,12 +25,12 @@ use Rattle.fixed_fit.proofs.ServingLemmas.{all_one_more, in_width, left_in, serv
 use Rattle.fixed_fit.proofs.ShortLemmas.{left_as_they_were, less_room, read_numeral, surely_left, whole_magnitude}
 use Rattle.fixed_fit.proofs.WithinLemmas.{error_before, error_within_longer, from_longer, half_within_longer, serves_before, within_one_more}
 
--- ---- some lengths
+-- ---- the lengths of several widths
 pub all_as_they_were : (r : Radix) (line : List ℕ) (place : ℕ) (n : ShortNumeral) (ls : List Lengths) → IsShortRead r line n → n.exponent ≡ pos 0 → AreSurelyLeft ls n → AreAllLowered r line place ls ls
 all_as_they_were r line place n [] read none all = tt
 all_as_they_were r line place n (l ∷ ls) read none all = (left_as_they_were r line place l n read none all.0, all_as_they_were r line place n ls read none all.1)
 
--- ---- by the room of all
+-- ---- the room of all widths
 pub less_rooms : (j k : ℕ) (ls : List Lengths) → j ≤ k → HaveRoom k ls → HaveRoom j ls
 less_rooms j k [] order all = tt
 less_rooms j k (l ∷ ls) order all = (less_room j k l order all.0, less_rooms j k ls order all.1)
@@ -45,7 +46,7 @@ all_by_room (l ∷ ls) d k s signs sign flat less room = (
   all_by_room ls d k s (λ x within. signs x (inr within)) sign flat less room.1,
 )
 
--- ---- where half an ulp is within the bound each numeral is
+-- ---- if half an ulp is within the bound, the error of each numeral is
 pub numeral_within : (r : Radix) (f : ℕ) (line bound : List ℕ) → IsNumeral r line → IsHalfWithin r f bound → HasErrorWithin NearestEven r f line bound
 numeral_within r f line bound numeral h =
     let p = numeral.0 in
@@ -66,7 +67,7 @@ within_on : (range : Bool) (r : Radix) (f : ℕ) (bound : List ℕ) (done : List
 within_on true r f bound done line numeral half h = h
 within_on false r f bound done line numeral half h = within_one_more r f bound done line h (numeral_within r f line bound numeral half)
 
--- ---- a whole number has no error
+-- ---- a whole number of ulps has no error
 nearest_whole : (w den q : ℕ) → 0 < den → IsNearest (w * den) den q → distance (w * den) (q * den) ≡ 0
 nearest_whole w den q some h = ⊎_elim
     (λ (less : w < q). let m : (w + 1) * den ≤ q * den = mul-le-mul_right den (omega (arith, less)) in let near = h.near in absurd (omega (arith, m, near, some)))
@@ -76,16 +77,14 @@ nearest_whole w den q some h = ⊎_elim
     (cases_lt q w))
     (cases_lt w q)
 
-no_error : (m b : Fraction) (f w q : ℕ) → 0 < m.den → m.num ≡ w * m.den → IsNearest (m.num * 2 ^ f) m.den q → IsAtMost (error_size m f q) b
+no_error : (m b : Fraction) (f w q : ℕ) → 0 < m.den → m.num * 2 ^ f ≡ w * m.den → IsNearest (m.num * 2 ^ f) m.den q → IsAtMost (error_size m f q) b
 no_error m b f w q some is near =
-    let up : ℕ = 2 ^ f in
-    let same : m.num * up ≡ w * up * m.den = ap (λ (k : ℕ). k * up) is ∙ omega arith in
-    let none : distance (w * up * m.den) (q * m.den) ≡ 0 = nearest_whole (w * up) m.den q some (subst (λ (k : ℕ). IsNearest k m.den q) same near) in
-    let here : distance (m.num * up) (q * m.den) ≡ 0 = subst (λ (k : ℕ). distance k (q * m.den) ≡ 0) (sym same) none in
-    let left : distance (m.num * up) (q * m.den) * b.den ≡ 0 * b.den = ap (λ (k : ℕ). k * b.den) here in
+    let none : distance (w * m.den) (q * m.den) ≡ 0 = nearest_whole w m.den q some (subst (λ (k : ℕ). IsNearest k m.den q) is near) in
+    let here : distance (m.num * 2 ^ f) (q * m.den) ≡ 0 = subst (λ (k : ℕ). distance k (q * m.den) ≡ 0) (sym is) none in
+    let left : distance (m.num * 2 ^ f) (q * m.den) * b.den ≡ 0 * b.den = ap (λ (k : ℕ). k * b.den) here in
     omega (arith, left)
 
-whole_within : (r : Radix) (f : ℕ) (line bound : List ℕ) (n : ShortNumeral) → IsShortRead r line n → n.exponent ≡ pos 0 → n.fraction ≡ 0 → IsNumeral r bound → HasErrorWithin NearestEven r f line bound
+whole_within : (r : Radix) (f : ℕ) (line bound : List ℕ) (n : ShortNumeral) → IsShortRead r line n → n.exponent ≡ pos 0 → IsWholeFraction n f → IsNumeral r bound → HasErrorWithin NearestEven r f line bound
 whole_within r f line bound n read none whole limit =
     let numeral = read_numeral r line n read in
     let p = numeral.0 in
@@ -95,46 +94,46 @@ whole_within r f line bound n read none whole limit =
       has_size = record { parts = p; numeral = numeral.1; number = v.0; read = v.1; size_is = refl };
       bound_parts = limit.0;
       bound_numeral = limit.1;
-      at_most = no_error (magnitude r p) (magnitude r limit.0) f n.whole v.1.ulps (magnitude_pos r p) (whole_magnitude r line n p numeral.1 read none whole) v.1.rounded;
+      at_most = no_error (magnitude r p) (magnitude r limit.0) f (n.whole * 2 ^ f + whole.0) v.1.ulps (magnitude_pos r p) (whole_magnitude r line n p f whole.0 numeral.1 read none whole.1) v.1.rounded;
     }
 
--- ---- what serves at the least width goes on to
-serves_on : (range : Bool) (r : Radix) (s : Bool) (bound : List ℕ) (done : List (List ℕ)) (line : List ℕ) (ls : List Lengths) (l : Lengths) (low f : ℕ) → AreAllLeft r s done ls → AreAllLeft r s (done ++ line ∷ []) ls → (f < l.count) ⊎ (l.count ≤ f) → (f < low) ⊎ (low ≤ f) → IsIn l ls
-    → ((g : ℕ) → g < low → ¬ IsErrorWithin range r g bound done) → IsErrorWithin range r low bound (done ++ line ∷ []) → Serves range r s bound done l.kind.width f → Serves range r s bound (done ++ line ∷ []) l.kind.width f
-serves_on range r s bound done line ls l low f before after (inr past) order is least within h = absurd (serves_not range r s bound done l f (left_in r s done l ls is before) past h)
-serves_on range r s bound done line ls l low f before after (inl less) (inl short) is least within h = absurd (least f short h.within)
-serves_on range r s bound done line ls l low f before after (inl less) (inr from) is least within h =
-    serves_by range r s bound (done ++ line ∷ []) l f (left_in r s (done ++ line ∷ []) l ls is after) less (error_within_longer range r low f bound (done ++ line ∷ []) from within)
+-- ---- the format that serves at the least width still serves
+serves_on : (range : Bool) (r : Radix) (c : Choice) (bound : List ℕ) (done : List (List ℕ)) (line : List ℕ) (ls : List Lengths) (l : Lengths) (low f : ℕ) → AreAllLeft r c done ls → AreAllLeft r c (done ++ line ∷ []) ls → (f < l.count) ⊎ (l.count ≤ f) → (f < low) ⊎ (low ≤ f) → IsIn l ls
+    → ((g : ℕ) → g < low → ¬ IsErrorWithin range r g bound done) → IsErrorWithin range r low bound (done ++ line ∷ []) → Serves range r c bound done l.kind.width f → Serves range r c bound (done ++ line ∷ []) l.kind.width f
+serves_on range r c bound done line ls l low f before after (inr past) order is least within h = absurd (serves_not range r c bound done l f (left_in r c done l ls is before) past h)
+serves_on range r c bound done line ls l low f before after (inl less) (inl short) is least within h = absurd (least f short h.within)
+serves_on range r c bound done line ls l low f before after (inl less) (inr from) is least within h =
+    serves_by range r c bound (done ++ line ∷ []) l f (left_in r c (done ++ line ∷ []) l ls is after) less (error_within_longer range r low f bound (done ++ line ∷ []) from within)
 
-least_on : (range : Bool) (r : Radix) (s : Bool) (bound : List ℕ) (widths : Widths) (one : ℕ) (done : List (List ℕ)) (line : List ℕ) (n f : ℕ) → Serves range r s bound (done ++ line ∷ []) n f → IsLeastWithin range r s bound widths one done n f → IsLeastWithin range r s bound widths one (done ++ line ∷ []) n f
-least_on range r s bound widths one done line n f serves h = record {
+least_on : (range : Bool) (r : Radix) (c : Choice) (bound : List ℕ) (widths : Widths) (one : ℕ) (done : List (List ℕ)) (line : List ℕ) (n f : ℕ) → Serves range r c bound (done ++ line ∷ []) n f → IsLeastWithin range r c bound widths one done n f → IsLeastWithin range r c bound widths one (done ++ line ∷ []) n f
+least_on range r c bound widths one done line n f serves h = record {
   tried = h.tried;
   serves = serves;
-  greatest = λ g more x. h.greatest g more (serves_before range r s bound done (line ∷ []) n g x);
-  least = λ m g less is x. h.least m g less is (serves_before range r s bound done (line ∷ []) m g x);
+  greatest = λ g more x. h.greatest g more (serves_before range r c bound done (line ∷ []) n g x);
+  least = λ m g less is x. h.least m g less is (serves_before range r c bound done (line ∷ []) m g x);
 }
 
-few_left : (r : Radix) (s : Bool) (lines : List (List ℕ)) (ls : List Lengths) → AreAllLeft r s lines ls → most_left ls ≤ 65
-few_left r s lines [] all = omega arith
-few_left r s lines (l ∷ ls) all = let rest = few_left r s lines ls all.1 in omega (arith, rest, all.0.lengths.most, all.0.width.most)
+few_left : (r : Radix) (c : Choice) (lines : List (List ℕ)) (ls : List Lengths) → AreAllLeft r c lines ls → most_left ls ≤ 65
+few_left r c lines [] all = omega arith
+few_left r c lines (l ∷ ls) all = let rest = few_left r c lines ls all.1 in omega (arith, rest, all.0.lengths.few)
 
-pub stays : (range : Bool) (r : Radix) (s : Bool) (widths : Widths) (one : ℕ) (done : List (List ℕ)) (line : List ℕ) (place : ℕ) (n : ShortNumeral) (v : Serving) → v.is_served ≡ true → (v.half ≤ v.low) ⊎ (n.fraction ≡ 0) → IsShortRead r line n → n.exponent ≡ pos 0 → AreSurelyLeft v.lengths.items n → place ≡ length done + 1
-    → HasServing range r s widths one done v → HasServing range r s widths one (done ++ line ∷ []) v
-stays range r s widths one done line place n v on sure read none surely at h =
+pub stays : (range : Bool) (r : Radix) (c : Choice) (widths : Widths) (one : ℕ) (done : List (List ℕ)) (line : List ℕ) (place : ℕ) (n : ShortNumeral) (v : Serving) → v.is_served ≡ true → (v.half ≤ v.low) ⊎ IsWholeFraction n v.low → IsShortRead r line n → n.exponent ≡ pos 0 → AreSurelyLeft v.lengths.items n → place ≡ length done + 1
+    → HasServing range r c widths one done v → HasServing range r c widths one (done ++ line ∷ []) v
+stays range r c widths one done line place n v on sure read none surely at h =
     let was = h.serving on in
     let now = h.narrowed on in
     let bound : List ℕ = v.bound.items in
     let ls : List Lengths = v.lengths.items in
-    let few = few_left r s done ls was.lengths in
+    let few = few_left r c done ls was.lengths in
     let served = was.served in
-    let after = all_one_more r s done line place ls ls at (all_as_they_were r line place n ls read none surely) was.lengths in
+    let after = all_one_more r c done line place ls ls at (all_as_they_were r line place n ls read none surely) was.lengths in
     let within = ⊎_elim
     (λ (order : v.half ≤ v.low). within_on range r v.low bound done line (read_numeral r line n read) (half_within_longer r v.half v.low bound order (h.half (omega (arith, order, few, served)))) was.within)
-    (λ (whole : n.fraction ≡ 0). within_by range r v.low bound done line (whole_within r v.low line bound n read none whole h.numeral) was.within)
+    (λ (whole : IsWholeFraction n v.low). within_by range r v.low bound done line (whole_within r v.low line bound n read none whole h.numeral) was.within)
     sure in
     let l = in_width v.width ls (h.tried.all v.width now.least.tried) in
-    let S : List (List ℕ) → ℕ → Type 0 = λ lines m. Serves range r s bound lines m now.frac in
-    let serves : S (done ++ line ∷ []) v.width = subst (S (done ++ line ∷ [])) l.2 (serves_on range r s bound done line ls l.0 v.low now.frac was.lengths after (cases_lt now.frac l.0.count) (cases_lt now.frac v.low) l.1 was.least within (subst (S done) (sym l.2) now.least.serves)) in
+    let S : List (List ℕ) → ℕ → Type 0 = λ lines m. Serves range r c bound lines m now.frac in
+    let serves : S (done ++ line ∷ []) v.width = subst (S (done ++ line ∷ [])) l.2 (serves_on range r c bound done line ls l.0 v.low now.frac was.lengths after (cases_lt now.frac l.0.count) (cases_lt now.frac v.low) l.1 was.least within (subst (S done) (sym l.2) now.least.serves)) in
     record {
       range_is = h.range_is;
       numeral = h.numeral;
@@ -150,8 +149,8 @@ stays range r s widths one done line place n v on sure read none surely at h =
       };
       narrowed = λ _. record {
         frac = now.frac;
-        least = least_on range r s bound widths one done line v.width now.frac serves now.least;
-        below = λ m next. from_longer range r s bound One m done line v.raised (now.below m next);
+        least = least_on range r c bound widths one done line v.width now.frac serves now.least;
+        below = λ m next. from_longer range r c bound One m done line v.raised (now.below m next);
       };
       unserved = λ over. let no : true ≡ false = sym on ∙ over in cc;
     }

@@ -1,4 +1,4 @@
--- What one more line makes of the errors that are kept.
+-- The kept errors after one more line.
 use Rattle.std.proofs.Common.{◌≡◌, ℕ, ◌+◌, ◌^◌, ◌<◌, ◌≤◌, Bool, true, false, List, [], ◌∷◌, ◌++◌, length, max, min, Option, None, sym, ap, ◌∙◌, subst, arith, ⊎_elim, ℤ}
 use Rattle.std.proofs.lemmas.Bool.{cases_lt}
 use Rattle.std.proofs.lemmas.Int.{ints}
@@ -23,6 +23,7 @@ use Rattle.fixed_fit.specs.Inner.Reading.{AreKept}
 use Rattle.fixed_fit.specs.Inner.Serving.{AreServed, Asked}
 use Rattle.fixed_fit.specs.declared.lengths.Lengths.{Lengths}
 use Rattle.fixed_fit.specs.declared.progress.Progress.{Progress}
+use Rattle.fixed_fit.specs.declared.question.Fractions.{Fractions}
 use Rattle.fixed_fit.specs.declared.serving.Within.{Within}
 use Rattle.fixed_fit.proofs.ErrorWordLemmas.{entries_longer}
 
@@ -48,8 +49,8 @@ last_numeral : (r : Radix) (done : List (List ℕ)) (line : List ℕ) → AllNum
 last_numeral r [] line all = all.0
 last_numeral r (first ∷ done) line all = last_numeral r done line all.1
 
-by_lengths : (r : Radix) (s : Bool) (n f : ℕ) (done : List (List ℕ)) (line : List ℕ) (l : Lengths) → n ≤ 64 → l.kind ≡ record { signed = s; width = n; frac = 0 } → AreLengths r (done ++ line ∷ []) l → f < l.count → IsReadWithin NearestEven r f line
-by_lengths r s n f done line l most kind h less =
+by_lengths : (a : Fractions) (r : Radix) (s : Bool) (n f : ℕ) (done : List (List ℕ)) (line : List ℕ) (l : Lengths) → n ≤ 64 → l.kind ≡ record { signed = s; width = n; frac = 0 } → AreLengths a r (done ++ line ∷ []) l → f < l.count → IsReadWithin NearestEven r f line
+by_lengths a r s n f done line l most kind h less =
     fits_within r s n f line most (last_fits r s n f done line (subst (λ (k : FormatParts). AllFit r k.signed k.width f (done ++ line ∷ [])) kind (h.fit f less)))
 
 pub fitted : (n : ℕ) (list : List (List ℕ)) (p : Progress) → HasProgress n list p → p.fault ≡ None → AreFitted n list p
@@ -60,8 +61,8 @@ line_within r n f done line p width h same none less =
     let known : AreFitted n (done ++ line ∷ []) p = fitted n (done ++ line ∷ []) p h none in
     subst (λ (x : Radix). IsReadWithin NearestEven x f line) same
     (⊎_elim
-    (λ (plain : f < p.plain.count). by_lengths p.radix false n f done line p.plain width.most h.plain_kind known.plain plain)
-    (λ (past : p.plain.count ≤ f). by_lengths p.radix true n f done line p.signed width.most h.signed_kind known.signed (omega (arith, past, less)))
+    (λ (plain : f < p.plain.count). by_lengths p.fractions p.radix false n f done line p.plain width.most h.plain_kind known.plain plain)
+    (λ (past : p.plain.count ≤ f). by_lengths p.fractions p.radix true n f done line p.signed width.most h.signed_kind known.signed (omega (arith, past, less)))
     (cases_lt f p.plain.count))
 
 pub line_numeral : (r : Radix) (n : ℕ) (done : List (List ℕ)) (line : List ℕ) (p : Progress) → HasProgress n (done ++ line ∷ []) p → p.radix ≡ r → p.fault ≡ None → IsNumeral r line
@@ -79,17 +80,17 @@ errors_longer r done line place count old plain signed errors at few few' is h =
     subst (λ (l : List Entry). HasGreatestErrors r (max plain signed) l errors) here (subst (λ (c : ℕ). HasGreatestErrors r c (entries_from 1 done ++ record { place = place; numeral = line } ∷ []) errors) one h)
 
 pub ended : (r : Radix) (a : Asked) (done : List (List ℕ)) (line : List ℕ) (p new : Progress) (e errors : GreatestErrors) (w within : Within) → ((m : ℕ) (lines : List (List ℕ)) → HasProgress m lines p → HasProgress m (lines ++ line ∷ []) new)
-    → new.radix ≡ p.radix → (new.fault ≡ None → HasGreatestErrors r (max new.plain.count new.signed.count) (entries_from 1 (done ++ line ∷ [])) errors)
+    → new.radix ≡ p.radix → new.fractions ≡ p.fractions → (new.fault ≡ None → HasGreatestErrors r (max new.plain.count new.signed.count) (entries_from 1 (done ++ line ∷ [])) errors)
     → within.is_bounded ≡ w.is_bounded → (a.is_bounded ≡ true → new.fault ≡ None → AreServed r a (done ++ line ∷ []) within)
     → AreKept r a done p e w → AreKept r a (done ++ line ∷ []) new errors within
-ended r a done line p new e errors w within more radix longer is_bounded served h =
-    record { width = h.width; progress = more a.width done h.progress; radix = radix ∙ h.radix; errors = longer; is_bounded = is_bounded ∙ h.is_bounded; within = served }
+ended r a done line p new e errors w within more radix fractions longer is_bounded served h =
+    record { width = h.width; progress = more a.width done h.progress; radix = radix ∙ h.radix; fractions = fractions ∙ h.fractions; errors = longer; is_bounded = is_bounded ∙ h.is_bounded; within = served }
 
--- what `add` asks for
+-- the errors that `add` requires
 pub some_errors : (r : Radix) (a : Asked) (whole : List (List ℕ)) (count : ℕ) (p : Progress) (e errors : GreatestErrors) (w : Within) → AreKept r a whole p e w → p.fault ≡ None
     → ((x : Radix) (c : ℕ) (entries : List Entry) → HasGreatestErrors x c entries e → HasGreatestErrors x (min count c) entries errors) → HasGreatestErrors r (min count (max p.plain.count p.signed.count)) (entries_from 1 whole) errors
 some_errors r a whole count p e errors w h none shorter = shorter r (max p.plain.count p.signed.count) (entries_from 1 whole) (h.errors none)
 
--- what is kept within the bound is known of some lines
+-- the serving formats that are kept for a bound, while all lines are numerals
 pub some_served : (r : Radix) (a : Asked) (done : List (List ℕ)) (p : Progress) (e : GreatestErrors) (w : Within) → w.is_bounded ≡ true → p.fault ≡ None → AreKept r a done p e w → AreServed r a done w
 some_served r a done p e w bounded none h = h.within (sym h.is_bounded ∙ bounded) none

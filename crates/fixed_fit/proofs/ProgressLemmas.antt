@@ -1,24 +1,27 @@
--- What one more line makes of what is known.
-use Rattle.std.proofs.Common.{◌≡◌, ℕ, ◌+◌, ◌⊎◌, ◌↔◌, ◌||◌, Bool, true, false, IsTrue, List, [], ◌∷◌, ◌++◌, length, Option, Some, None, is_some, refl, sym, ap, ◌∙◌, subst, arith, inl, inr, append_assoc, length-append}
+-- What is known of the lines after one more line.
+use Rattle.std.proofs.Common.{◌≡◌, ℕ, ◌+◌, ◌≤◌, ◌⊎◌, ◌↔◌, ◌||◌, Bool, true, false, IsTrue, List, [], ◌∷◌, ◌++◌, length, Option, Some, None, is_some, refl, sym, ap, ◌∙◌, subst, arith, inl, inr, append_assoc, length-append}
 use Rattle.fixed_least.specs.Holding.{AllNumerals}
 use Rattle.fixed_least.specs.Least.{IsNoNumeral, kind_at, place_of}
 use Rattle.fixed_least.specs.declared.least.LeastFault.{LeastFault}
 use Rattle.fixed_numeral.specs.Cause.{HasCause}
 use Rattle.fixed_numeral.specs.Numeral.{Parts, HasNumeral, IsNumeral}
 use Rattle.fixed_numeral.specs.declared.radix.Radix.{Radix}
-use Rattle.fixed_fit.specs.Fitting.{HasBelowZero, IsBelowZero, IsLineBelowZero}
+use Rattle.fixed_fit.specs.Fitting.{HasBelowZero, IsBelowZero, IsLineBelowZero, frac_lengths}
 use Rattle.fixed_fit.specs.Inner.Lengths.{AreLengths, AreLowered, IsRoomOf}
 use Rattle.fixed_fit.specs.Inner.Progress.{AreFitted, HasProgress, IsKnown}
 use Rattle.fixed_fit.specs.declared.lengths.Lengths.{Lengths}
 use Rattle.fixed_fit.specs.declared.progress.Progress.{Progress}
+use Rattle.fixed_fit.specs.declared.question.Fractions.{Fractions}
 use Rattle.fixed_fit.proofs.FittingLemmas.{lengths_one_more}
 
--- before the first line every length is left
-pub all_are_left : (r : Radix) (n : ℕ) (l : Lengths) → l.kind.width ≡ n → l.count ≡ n + 1 → AreLengths r [] l
-all_are_left r n l at all = record {
-  most = omega (arith, at, all);
+-- before the first line, all lengths remain
+pub all_are_left : (a : Fractions) (r : Radix) (l : Lengths) → l.count ≡ frac_lengths a l.kind.width → l.count ≤ 65 → l.place ≡ 0 → AreLengths a r [] l
+all_are_left a r l all few place = record {
+  most = omega (arith, all);
+  few = few;
   fit = λ f less. tt;
-  first = λ less. absurd (omega (arith, at, all, less));
+  never = λ _. place;
+  first = λ less. absurd (omega (arith, all, less));
 }
 
 numerals_one_more : (r : Radix) (done : List (List ℕ)) (line : List ℕ) → AllNumerals r done → IsNumeral r line → AllNumerals r (done ++ line ∷ [])
@@ -45,7 +48,7 @@ below_one_more r done line = (to done, back done)
     back (first ∷ done) (inl (inr later)) = inr (back done (inl later))
     back (first ∷ done) (inr here) = inr (back done (inr here))
 
--- a line by what was found of it
+-- whether a line is below zero, from the test of its numeral
 line_below : (r : Radix) (line : List ℕ) (below : Bool) → IsNumeral r line → ((p : Parts) → HasNumeral r line p → IsTrue below ↔ IsBelowZero r p) → IsTrue below ↔ IsLineBelowZero r line
 line_below r line below numeral found = (
   (λ t. record { parts = numeral.0; numeral = numeral.1; below = (found numeral.0 numeral.1).0 t }),
@@ -74,9 +77,9 @@ fault_longer r done line fault h = record {
 counted : (done : List (List ℕ)) (line : List ℕ) (old new : ℕ) → old ≡ length done → new ≡ old + 1 → new ≡ length (done ++ line ∷ [])
 counted done line old new is more = omega (arith, is, more, length-append done (line ∷ []))
 
--- one more line where one was no numeral
+-- one more line after a line that is not a numeral
 pub after_fault : (n : ℕ) (done : List (List ℕ)) (line : List ℕ) (p : Progress) (place : ℕ) (fault : Option LeastFault) → fault ≡ p.fault → (fault ≡ None → ⊥) → place ≡ p.lines + 1 → HasProgress n done p
-    → HasProgress n (done ++ line ∷ []) (record { radix = p.radix; lines = place; fault = fault; is_below = p.is_below; plain = p.plain; signed = p.signed; room = p.room })
+    → HasProgress n (done ++ line ∷ []) (record { radix = p.radix; fractions = p.fractions; lines = place; fault = fault; is_below = p.is_below; plain = p.plain; signed = p.signed; room = p.room })
 after_fault n done line p place None same some at h = absurd (some refl)
 after_fault n done line p place (Some fault) same some at h =
     let P : Option LeastFault → Type 0 = λ f. IsKnown n done p f in
@@ -91,9 +94,9 @@ after_fault n done line p place (Some fault) same some at h =
       known = fault_longer p.radix done line fault (subst P (sym same) h.known);
     }
 
--- the first line that is no numeral
+-- the first line that is not a numeral
 pub first_fault : (n : ℕ) (done : List (List ℕ)) (line : List ℕ) (p : Progress) (place : ℕ) (fault : LeastFault) → p.fault ≡ None → place_of fault ≡ place → HasCause p.radix line (kind_at fault) → place ≡ p.lines + 1 → HasProgress n done p
-    → HasProgress n (done ++ line ∷ []) (record { radix = p.radix; lines = place; fault = Some fault; is_below = p.is_below; plain = p.plain; signed = p.signed; room = p.room })
+    → HasProgress n (done ++ line ∷ []) (record { radix = p.radix; fractions = p.fractions; lines = place; fault = Some fault; is_below = p.is_below; plain = p.plain; signed = p.signed; room = p.room })
 first_fault n done line p place fault none named cause at h =
     let P : Option LeastFault → Type 0 = λ f. IsKnown n done p f in
     let fitted : AreFitted n done p = subst P none h.known in
@@ -108,10 +111,9 @@ first_fault n done line p place fault none named cause at h =
       known = record { before = done; line = line; after = []; split = refl; numerals = fitted.numerals; cause = cause; place_is = named ∙ (at ∙ ap (λ k. k + 1) h.count) };
     }
 
--- one more numeral
 pub after_numeral : (n : ℕ) (done : List (List ℕ)) (line : List ℕ) (p : Progress) (place : ℕ) (below : Bool) (plain signed : Lengths) (room : ℕ) → IsRoomOf room plain → IsRoomOf room signed → p.fault ≡ None → place ≡ p.lines + 1 → IsNumeral p.radix line
     → ((q : Parts) → HasNumeral p.radix line q → IsTrue below ↔ IsBelowZero p.radix q) → AreLowered p.radix line place p.plain plain → AreLowered p.radix line place p.signed signed → HasProgress n done p
-    → HasProgress n (done ++ line ∷ []) (record { radix = p.radix; lines = place; fault = None; is_below = p.is_below || below; plain = plain; signed = signed; room = room })
+    → HasProgress n (done ++ line ∷ []) (record { radix = p.radix; fractions = p.fractions; lines = place; fault = None; is_below = p.is_below || below; plain = plain; signed = signed; room = room })
 after_numeral n done line p place below plain signed room plain_room signed_room none at numeral found low low' h =
     let P : Option LeastFault → Type 0 = λ f. IsKnown n done p f in
     let fitted : AreFitted n done p = subst P none h.known in
@@ -126,8 +128,8 @@ after_numeral n done line p place below plain signed room plain_room signed_room
       signed_room = signed_room;
       known = record {
         numerals = numerals_one_more p.radix done line fitted.numerals numeral;
-        plain = lengths_one_more p.radix done line place p.plain plain here fitted.plain low;
-        signed = lengths_one_more p.radix done line place p.signed signed here fitted.signed low';
+        plain = lengths_one_more p.fractions p.radix done line place p.plain plain here fitted.plain low;
+        signed = lengths_one_more p.fractions p.radix done line place p.signed signed here fitted.signed low';
         below = either p.is_below below (HasBelowZero p.radix done) (IsLineBelowZero p.radix line) (HasBelowZero p.radix (done ++ line ∷ [])) fitted.below (line_below p.radix line below numeral found) (below_one_more p.radix done line);
       };
     }

@@ -50,7 +50,7 @@ brief_number n m k few less = (5 ^ k * 10 ^ (n - k), same (10 ^ n) (5 ^ k * 10 ^
 half_brief : (k : ℕ) → suc k ≤ 1100 → IsBrief 1 (1 * 2 ^ suc k)
 half_brief k few = let x = brief_number 1100 1200 (suc k) few (omega arith) in record { number = x.0; same = x.1; small = x.2 }
 
--- ---- the error of zero bits
+-- ---- the error of half an ulp, which is read as zero
 error_is : (d t : ℕ) → (pos 0 *ℤ pos d) -ℤ pos (1 * suc t) ≡ negsuc t
 error_is d t = omega (arith, ints)
 

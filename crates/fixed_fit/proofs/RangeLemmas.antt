@@ -20,7 +20,7 @@ use Rattle.fixed_fit.specs.Fitting.{Fits}
 use Rattle.fixed_fit.specs.Range.{EndsDecide, IsAtMost, IsFitting, RangeServesEach}
 use Rattle.fixed_fit.proofs.FittingLemmas.{nearest_grows}
 
--- of two fractions, the nearest numbers of ulps
+-- the nearest number of ulps does not decrease from one fraction to a greater one
 fractions_grow : (a b c d up p q : ℕ) → 0 < b → 0 < d → a * d ≤ c * b → IsNearest (a * up) b p → IsNearest (c * up) d q → p ≤ q
 fractions_grow a b c d up p q some some' order x y =
     let left : IsNearest (d * (a * up)) (d * b) p = (nearest_scaled d (a * up) b p some').1 x in
@@ -34,7 +34,7 @@ fractions_grow a b c d up p q some some' order x y =
     positive_product : (d b : ℕ) → 0 < d → 0 < b → 1 * 1 ≤ d * b
     positive_product d b x y = let h : 1 * b ≤ d * b = mul-le-mul_right b (omega (arith, x)) in omega (arith, h, y)
 
--- nothing is nearest to zero
+-- only zero is nearest to zero
 nothing_near : (den q : ℕ) → 0 < den → IsNearest 0 den q → q ≡ 0
 nothing_near den q some h =
     ⊎_elim
@@ -49,7 +49,7 @@ zero_of a d some h =
     (λ (none : a ≤ 0). omega (arith, none))
     (cases_lt 0 a)
 
--- numbers in order, by their signs
+-- signed fractions in order have nearest numbers in order
 grows : (s t : Bool) (a b c d up p q : ℕ) → 0 < b → 0 < d → with_sign s (a * d) ≤ℤ with_sign t (c * b) → IsNearest (a * up) b p → IsNearest (c * up) d q → with_sign s p ≤ℤ with_sign t q
 grows false false a b c d up p q some some' order x y = let less : p ≤ q = fractions_grow a b c d up p q some some' (omega (arith, ints, order)) x y in omega (arith, ints, less)
 grows true true a b c d up p q some some' order x y = let less : q ≤ p = fractions_grow c d a b up q p some' some (omega (arith, ints, order)) y x in omega (arith, ints, less)
@@ -116,7 +116,8 @@ fitting_of r s n f line p at h =
     subst (λ (k : Parts). IsFitting r s n f k) same (record { number = h.number; read = h.read; in_range = h.in_range })
 
 pub range_serves_each : RangeServesEach
-range_serves_each r s bound low high n f l h p at at' above below x =
+range_serves_each r c bound low high n f l h p at at' above below x =
+    let s : Bool = c.signed in
     let v = ends_decide r s n f l h p above below (fitting_of r s n f low l at x.fit.0) (fitting_of r s n f high h at' x.fit.1.0) in
     let w = x.within in
     record {

@@ -1,4 +1,4 @@
--- What more bytes make of a list, and what is made at its end.
+-- What the reader keeps after more bytes, and the answer at the end of an input.
 use Rattle.std.proofs.Common.{◌≡◌, ℕ, ◌+◌, true, List, [], ◌∷◌, ◌++◌, length, append-nil, max, Option, None, Some, Result, Ok, Err, is_some, refl, sym, ap, ◌∙◌, subst, arith}
 use Rattle.std.specs.Global.{Vec}
 use Rattle.std.specs.declared.convert.Infallible.{Infallible}
@@ -24,7 +24,7 @@ use Rattle.fixed_fit.specs.declared.reader.Reader.{Reader}
 use Rattle.fixed_fit.proofs.BoundedUniqueLemmas.{bounded_answer_is_the_one}
 use Rattle.fixed_fit.proofs.UniqueLemmas.{answer_is_the_one}
 
--- a line that ends with a part
+-- the rest of a line, with its newline
 pub line_read : (r : Radix) (a : Asked) (whole part : List ℕ) (old new : Reader) → ended_lines part ≡ [] → new.line.items ≡ []
     → ((m : Asked) (done : List (List ℕ)) → HasLines r m done old → HasLines r m (done ++ (old.line.items ++ part) ∷ []) new) → HasRead r a whole old → HasRead r a (whole ++ (part ++ 10 ∷ [])) new
 line_read r a whole part old new quiet clear more h =
@@ -32,14 +32,14 @@ line_read r a whole part old new quiet clear more h =
     let grown : ended_lines whole ++ (old.line.items ++ part) ∷ [] ≡ ended_lines (whole ++ (part ++ 10 ∷ [])) = ap (λ l. ended_lines whole ++ (l ++ part) ∷ []) h.line ∙ sym (ended_lines_line whole part [] quiet) in
     record { line = clear ∙ sym (unended_line whole part [] quiet); lines = subst N grown (more a (ended_lines whole) h.lines) }
 
--- bytes after which the line goes on
+-- bytes within a line
 pub part_read : (r : Radix) (a : Asked) (whole part : List ℕ) (old new : Reader) → ended_lines part ≡ [] → new.line.items ≡ old.line.items ++ part → (HasLines r a (ended_lines whole) old → HasLines r a (ended_lines whole) new) → HasRead r a whole old
     → HasRead r a (whole ++ part) new
 part_read r a whole part old new quiet grown same h =
     let N : List (List ℕ) → Type 0 = λ l. HasLines r a l new in
     record { line = grown ∙ ap (λ l. l ++ part) h.line ∙ sym (unended_quiet whole part quiet); lines = subst N (sym (ended_lines_quiet whole part quiet)) (same h.lines) }
 
--- at the end of an input
+-- the end of an input
 some_last : (rest : List ℕ) → (rest ≡ [] → ⊥) → last_line rest ≡ rest ∷ []
 some_last [] some = absurd (some refl)
 some_last (b ∷ bs) some = refl
@@ -63,14 +63,15 @@ nil_of [] e = refl
 nil_of (x ∷ xs) e = absurd (omega (arith, e))
 
 -- before the first byte
-pub fresh_reader : (r : Radix) (a : Asked) (reader : Reader) (count : ℕ) → IsWidth a.width → reader.line.items ≡ [] → HasProgress a.width [] reader.progress → reader.progress.radix ≡ r → count ≡ max reader.progress.plain.count reader.progress.signed.count
+pub fresh_reader : (r : Radix) (a : Asked) (reader : Reader) (count : ℕ) → IsWidth a.width → reader.line.items ≡ [] → HasProgress a.width [] reader.progress → reader.progress.radix ≡ r → reader.progress.fractions ≡ a.fractions → count ≡ max reader.progress.plain.count reader.progress.signed.count
     → HasGreatestErrors r count [] reader.errors → reader.within.is_bounded ≡ a.is_bounded → (a.is_bounded ≡ true → AreServed r a [] reader.within) → HasRead r a [] reader
-fresh_reader r a reader count width none progress radix is errors bounded served = record {
+fresh_reader r a reader count width none progress radix fractions is errors bounded served = record {
   line = none;
   lines = record {
     width = width;
     progress = progress;
     radix = radix;
+    fractions = fractions;
     errors = λ _. subst (λ (n : ℕ). HasGreatestErrors r n [] reader.errors) is errors;
     is_bounded = bounded;
     within = λ yes _. served yes;
@@ -78,7 +79,7 @@ fresh_reader r a reader count width none progress radix is errors bounded served
 }
 
 -- ---- the machine
--- it makes nothing of some bytes
+-- the machine writes nothing for some bytes
 pub silent : (first last : FitList) (bytes made next : List ℕ) (spent : ℕ) (how : How Infallible) (s : Seen) (held : List ℕ) (n m : ℕ) → MakesBy first (bytes ++ next) (made ++ []) (spent + m) how last → Goes (MakesBy first) bytes made spent next how last (moment s held n) (moment s held m)
 silent first last bytes made next spent how s held n m makes = record { more = []; cost = m; makes = makes; puts = puts_none s held; steps = omega arith }
 
@@ -93,14 +94,14 @@ makes_on first old new bytes made next spent cost makes question widths bound mo
 pub lacks : (first old new : FitList) (bytes made next : List ℕ) (spent cost : ℕ) → MakesBy first bytes made spent going old → new.question ≡ old.question → new.widths ≡ old.widths → new.bound ≡ old.bound → MakesBy first (bytes ++ next) (made ++ []) cost lacking new
 lacks first old new bytes made next spent cost makes question widths bound = (question ∙ makes.0, widths ∙ makes.1, bound ∙ makes.2, none_more made makes.3.0)
 
--- what is known, by what it asks itself
+-- what the reader keeps, by the machine's own question
 pub own : (first last : FitList) (bytes made : List ℕ) (spent : ℕ) → MakesBy first bytes made spent going last → HasRead last.question.radix (asked_by last.question last.widths last.bound.items) bytes last.reader
 own first last bytes made spent makes =
     let Q : Question → Option Widths → List ℕ → Type 0 = λ q w b. HasRead q.radix (asked_by q w b) bytes last.reader in
     let bound : last.bound.items ≡ first.bound.items = ap (λ (v : Vec ℕ). v.items) makes.2 in
     subst (λ q. Q q last.widths last.bound.items) (sym makes.0) (subst (λ w. Q first.question w last.bound.items) (sym makes.1) (subst (λ b. Q first.question first.widths b) (sym bound) makes.3.1))
 
--- at the end it makes the one answer
+-- at the end, the machine writes the only answer
 answer_one : (q : Question) (widths : Option Widths) (bound input : List ℕ) (a b : AnswerText) → IsAnswerTo q widths bound input a → IsAnswerTo q widths bound input b → a ≡ b
 answer_one q None bound input a b x y = answer_is_the_one q input a b x y
 answer_one q (Some widths) bound input a b x y = bounded_answer_is_the_one q widths bound input a b x y

@@ -1,7 +1,7 @@
--- Short decimals: which of them are below zero, and which surely fit.
+-- Short decimals: which are below zero, and which surely fit.
 use Rattle.std.proofs.Common.{◌≡◌, ℕ, ◌+◌, ◌-◌, ◌*◌, ◌/◌, ◌%◌, ◌^◌, ◌<◌, ◌≤◌, ◌↔◌, Bool, true, false, IsTrue, refl, sym, ap, ◌∙◌, subst, arith, ⊎_elim, mul-le-mul_right, div-add-mod', ℤ, pos, negsuc, ◌-ℤ◌, zero, suc, List}
-use Rattle.std.specs.Prelude.{Option, Some, None}
-use Rattle.std.proofs.Math.Nat.{one-le-pow}
+use Rattle.std.specs.Prelude.{Option, Some, None, min}
+use Rattle.std.proofs.Math.Nat.{one-le-pow, pow-le-pow_right}
 use Rattle.std.proofs.lemmas.Nat.{pow-add}
 use Rattle.std.proofs.lemmas.Bool.{cases_lt}
 use Rattle.std.proofs.lemmas.Int.{ints}
@@ -40,7 +40,7 @@ digits_some whole fraction places =
       λ h. ⊎_elim (λ (some : 0 < whole). omega (arith, some)) (λ (none : whole ≤ 0). let is : whole ≡ 0 = omega (arith, none) in let t : whole * 10 ^ places ≡ 0 * 10 ^ places = ap (λ k. k * 10 ^ places) is in omega (arith, t, h)) (cases_lt 0 whole),
     )
 
--- the magnitude of a short decimal by its digits
+-- the magnitude of a short decimal, from its digits
 magnitude_is : (p : Parts) (negative : Bool) (whole fraction places : ℕ) (exponent : ℤ) (two : Bool) → IsShortNumeral Dec p negative whole fraction places exponent two → magnitude Dec p ≡ scaled (whole * 10 ^ places + fraction) 1 10 (exponent -ℤ pos places)
 magnitude_is p negative whole fraction places exponent two h = h.value ∙ ap (placed_magnitude Dec (whole * 10 ^ places + fraction) places exponent) (h.separator ∙ never_two p.exponent)
 
@@ -56,7 +56,7 @@ short_below p negative whole fraction places exponent two b h below =
     )
 
 -- ---- in range
--- an ulp or more below the end
+-- a decimal at least an ulp below the end
 below_end : (digits up b places : ℕ) → digits * up + 10 ^ places ≤ b * 10 ^ places → (scaled digits 1 10 (pos 0 -ℤ pos places)).num * up + (scaled digits 1 10 (pos 0 -ℤ pos places)).den ≤ b * (scaled digits 1 10 (pos 0 -ℤ pos places)).den
 below_end digits up b zero less = omega (arith, less)
 below_end digits up b (suc k) less =
@@ -65,7 +65,7 @@ below_end digits up b (suc k) less =
     let down : digits * up + 1 * 10 ^ suc k ≤ b * (1 * 10 ^ suc k) = omega (arith, less) in
     subst P (sym is) down
 
--- a number of at most a whole number of ulps is rounded to at most as many
+-- a number at least an ulp below b ulps is rounded to fewer than b
 nearest_below : (num den up b q : ℕ) → 0 < den → num * up + den ≤ b * den → IsNearest (num * up) den q → q < b
 nearest_below num den up zero q some less h = absurd (omega (arith, less, some))
 nearest_below num den up (suc top) q some less h =
@@ -98,7 +98,7 @@ surely_fits s n f line p negative whole fraction places exponent two numeral h n
       in_range = subst Q (sym v.1.value) (below_room s n (is_minus p.sign) v.1.ulps (λ m. sign (h.sign ∙ m)) few);
     }
 
--- ---- room by parts of 10^-18
+-- ---- room in parts of 10^-18
 parts_fit : (digits parts k t up b one : ℕ) → 0 < one → digits * one ≤ parts * t → parts ≤ k → k * up + one ≤ b * one → digits * up + t ≤ b * t
 parts_fit digits parts k t up b one some is less room =
     let m : (k * up + one) * t ≤ b * one * t = mul-le-mul_right t room in
@@ -134,6 +134,25 @@ fraction_fits fraction places few below =
     let same : fraction * up * t ≡ fraction * (up * t) = omega arith in
     (same ∙ ap (λ (n : ℕ). fraction * n) (sym all), omega (arith, m, some, all))
 
+-- ---- a whole number of ulps
+-- for m = min f 18, an ulp of 2^-m is 5 ^ 18 * 2 ^ (18 - m) parts of 10^-18
+pub ulp_by : (f m : ℕ) → m ≡ min f 18 → 3814697265625 * 2 ^ (18 - m) * 2 ^ f ≡ 2 ^ (f - m) * 10 ^ 18
+ulp_by f m is =
+    let places : 18 - m + f ≡ 18 + (f - m) = omega (arith, is) in
+    let power : 2 ^ (18 - m) * 2 ^ f ≡ 2 ^ 18 * 2 ^ (f - m) = sym (pow-add 2 (18 - m) f) ∙ (ap (λ (n : ℕ). 2 ^ n) places ∙ pow-add 2 18 (f - m)) in
+    let scaled : 3814697265625 * (2 ^ (18 - m) * 2 ^ f) ≡ 3814697265625 * (2 ^ 18 * 2 ^ (f - m)) = ap (λ (n : ℕ). 3814697265625 * n) power in
+    omega (arith, scaled)
+
+pub ulp_fits : (m : ℕ) → 2 ^ (18 - m) ≤ 2 ^ 18
+ulp_fits m = let fewer : 18 - m ≤ 18 = omega arith in pow-le-pow_right (omega arith) fewer
+
+pub whole_found : (word ulp q fraction t up count : ℕ) → word ≡ q * ulp → word * t ≡ fraction * 10 ^ 18 → ulp * up ≡ count * 10 ^ 18 → fraction * up ≡ q * count * t
+whole_found word ulp q fraction t up count is same ulps =
+    let a : word * t * up ≡ fraction * 10 ^ 18 * up = ap (λ (n : ℕ). n * up) same in
+    let b : word * t * up ≡ q * ulp * t * up = ap (λ (n : ℕ). n * t * up) is in
+    let d : q * t * (ulp * up) ≡ q * t * (count * 10 ^ 18) = ap (λ (n : ℕ). q * t * n) ulps in
+    omega (arith, a, b, d)
+
 pub room_by : (end bits count f one : ℕ) → count ≡ f → end ≡ 2 ^ bits → (end - 1) * one / 2 ^ count * 2 ^ f + one ≤ 2 ^ bits * one
 room_by end bits count f one ulps is =
     let up : ℕ = 2 ^ count in
@@ -144,7 +163,7 @@ room_by end bits count f one ulps is =
     let all : (end - 1 + 1) * one ≡ 2 ^ bits * one = ap (λ (n : ℕ). n * one) (omega (arith, is, some)) in
     omega (arith, same, split, all)
 
--- ---- what a short decimal leaves
+-- ---- the lengths after a short decimal
 pub left_as_they_were : (r : Radix) (line : List ℕ) (place : ℕ) (l : Lengths) (n : ShortNumeral) → IsShortRead r line n → n.exponent ≡ pos 0 → IsSurelyLeft l n → AreLowered r line place l l
 left_as_they_were r line place l n read none h =
     let numeral = read.numeral in
@@ -156,22 +175,24 @@ read_below r line n b read below =
     subst (λ (x : Radix). (p : Parts) → HasNumeral x line p → IsTrue b ↔ IsBelowZero x p) (sym read.decimal)
     (λ p has. short_below p n.negative n.whole n.fraction n.places n.exponent n.scales_by_two b (read.parts p has) below)
 
--- a short decimal without a fraction is a whole number
-whole_scaled : (whole fraction places : ℕ) → fraction ≡ 0 → (scaled (whole * 10 ^ places + fraction) 1 10 (pos 0 -ℤ pos places)).num ≡ whole * (scaled (whole * 10 ^ places + fraction) 1 10 (pos 0 -ℤ pos places)).den
-whole_scaled whole fraction zero none = omega (arith, none)
-whole_scaled whole fraction (suc k) none =
-    let P : ℤ → Type 0 = λ z. (scaled (whole * 10 ^ suc k + fraction) 1 10 z).num ≡ whole * (scaled (whole * 10 ^ suc k + fraction) 1 10 z).den in
-    let is : pos 0 -ℤ pos (suc k) ≡ negsuc k = omega (arith, ints) in
-    let down : whole * 10 ^ suc k + fraction ≡ whole * (1 * 10 ^ suc k) = omega (arith, none) in
-    subst P (sym is) down
+-- a short decimal whose fraction is a whole number of ulps is a whole number of ulps
+whole_by : (w x t u k : ℕ) → x * u ≡ k * t → (w * t + x) * u ≡ (w * u + k) * (1 * t)
+whole_by w x t u k e = omega (arith, e)
 
-pub whole_magnitude : (r : Radix) (line : List ℕ) (n : ShortNumeral) (p : Parts) → HasNumeral r line p → IsShortRead r line n → n.exponent ≡ pos 0 → n.fraction ≡ 0 → (magnitude r p).num ≡ n.whole * (magnitude r p).den
-whole_magnitude r line n p has read none whole =
-    let G : Radix → Type 0 = λ x. HasNumeral x line p → (magnitude x p).num ≡ n.whole * (magnitude x p).den in
+whole_scaled : (whole fraction places f k : ℕ) → fraction * 2 ^ f ≡ k * 10 ^ places → (scaled (whole * 10 ^ places + fraction) 1 10 (pos 0 -ℤ pos places)).num * 2 ^ f ≡ (whole * 2 ^ f + k) * (scaled (whole * 10 ^ places + fraction) 1 10 (pos 0 -ℤ pos places)).den
+whole_scaled whole fraction zero f k e = omega (arith, e)
+whole_scaled whole fraction (suc j) f k e =
+    let P : ℤ → Type 0 = λ z. (scaled (whole * 10 ^ suc j + fraction) 1 10 z).num * 2 ^ f ≡ (whole * 2 ^ f + k) * (scaled (whole * 10 ^ suc j + fraction) 1 10 z).den in
+    let is : pos 0 -ℤ pos (suc j) ≡ negsuc j = omega (arith, ints) in
+    subst P (sym is) (whole_by whole fraction (10 ^ suc j) (2 ^ f) k e)
+
+pub whole_magnitude : (r : Radix) (line : List ℕ) (n : ShortNumeral) (p : Parts) (f k : ℕ) → HasNumeral r line p → IsShortRead r line n → n.exponent ≡ pos 0 → n.fraction * 2 ^ f ≡ k * 10 ^ n.places → (magnitude r p).num * 2 ^ f ≡ (n.whole * 2 ^ f + k) * (magnitude r p).den
+whole_magnitude r line n p f k has read none whole =
+    let G : Radix → Type 0 = λ x. HasNumeral x line p → (magnitude x p).num * 2 ^ f ≡ (n.whole * 2 ^ f + k) * (magnitude x p).den in
     let here : G Dec = λ numeral.
     let same : magnitude Dec p ≡ scaled (n.whole * 10 ^ n.places + n.fraction) 1 10 (pos 0 -ℤ pos n.places) = magnitude_is p n.negative n.whole n.fraction n.places n.exponent n.scales_by_two (read.parts p numeral) ∙ ap (λ e. scaled (n.whole * 10 ^ n.places + n.fraction) 1 10 (e -ℤ pos n.places)) none in
-    let P : Fraction → Type 0 = λ m. m.num ≡ n.whole * m.den in
-    subst P (sym same) (whole_scaled n.whole n.fraction n.places whole) in
+    let P : Fraction → Type 0 = λ m. m.num * 2 ^ f ≡ (n.whole * 2 ^ f + k) * m.den in
+    subst P (sym same) (whole_scaled n.whole n.fraction n.places f k whole) in
     subst G (sym read.decimal) here has
 
 pub read_numeral : (r : Radix) (line : List ℕ) (n : ShortNumeral) → IsShortRead r line n → IsNumeral r line

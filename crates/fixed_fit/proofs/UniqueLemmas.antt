@@ -1,6 +1,6 @@
--- An input has one answer.
+-- An input has at most one answer.
 use Rattle.std.proofs.Common.{◌≡◌, ℕ, ◌+◌, ◌<◌, ◌≤◌, ◌⊎◌, Bool, true, false, List, [], ◌∷◌, ◌++◌, length, refl, sym, ap, ◌∙◌, subst, arith, inl, inr, ⊎_elim}
-use Rattle.std.specs.Prelude.{codes, decimal}
+use Rattle.std.specs.Prelude.{codes}
 use Rattle.std.proofs.lemmas.Bool.{cases_lt}
 use Rattle.fixed_least.specs.Holding.{AllNumerals}
 use Rattle.fixed_least.specs.Least.{IsFaultAnswer}
@@ -9,15 +9,15 @@ use Rattle.fixed_numeral.specs.Numeral.{IsNumeral}
 use Rattle.fixed_numeral.specs.declared.radix.Radix.{Radix}
 use Rattle.line_engine.specs.AnswerText.{AnswerText}
 use Rattle.line_engine.specs.Lines.{lines}
-use Rattle.fixed_fit.specs.Answer.{IsFoundAnswer, IsNoneAnswer, IsReason, format_of, name_of, ruled_out_line}
+use Rattle.fixed_fit.specs.Answer.{IsFoundAnswer, IsNoneAnswer, IsReason, format_of, name_of, none_line, ruled_out_line}
 use Rattle.fixed_fit.specs.ErrorWord.{IsErrorWord}
-use Rattle.fixed_fit.specs.Fitting.{AllFit, Exceeds, Fits, IsFinest, IsFirstExceeding}
+use Rattle.fixed_fit.specs.Fitting.{AllFit, Exceeds, Fits, IsFinest, IsFirstExceeding, MayBeChosen, choice, frac_lengths}
 use Rattle.fixed_fit.specs.Laws.{AnswerIsTheOne}
 use Rattle.fixed_fit.specs.declared.question.Question.{Question}
 use Rattle.fixed_fit.proofs.ErrorWordLemmas.{word_one}
 use Rattle.fixed_fit.proofs.FittingLemmas.{all_fit_each_shorter, exceeding_not, finest_is_the_one, not_both, sign_rule_is_the_one}
 
--- the first line that is out of range is at one place
+-- only one line is the first that is out of range
 first_one : (r : Radix) (s : Bool) (n f : ℕ) (before before' : List (List ℕ)) (line line' : List ℕ) (after after' : List (List ℕ)) → before ++ line ∷ after ≡ before' ++ line' ∷ after'
     → AllFit r s n f before → AllFit r s n f before' → Exceeds r s n f line → Exceeds r s n f line' → length before ≡ length before'
 first_one r s n f [] [] line line' after after' e x y b b' = refl
@@ -39,12 +39,12 @@ reason_one q s list f t u x y = by q.is_reason_asked refl
     by false e = x.unasked e ∙ sym (y.unasked e)
     by true e =
         ⊎_elim
-        (λ (less : f < q.kind.width).
+        (λ (less : f + 1 < frac_lengths q.fractions q.kind.width).
         let a = x.next e less in
         let b = y.next e less in
         a.2 ∙ (ap (λ p. ruled_out_line s q.kind.width (f + 1) p) (place_one q.radix s q.kind.width (f + 1) list a.0 b.0 a.1 b.1) ∙ sym b.2))
-        (λ (past : q.kind.width ≤ f). x.no_next past ∙ sym (y.no_next past))
-        (cases_lt f q.kind.width)
+        (λ (past : frac_lengths q.fractions q.kind.width ≤ f + 1). let none : ¬ MayBeChosen (choice s q.fractions) q.kind.width (f + 1) = λ less. omega (arith, past, less) in x.no_next none ∙ sym (y.no_next none))
+        (cases_lt (f + 1) (frac_lengths q.fractions q.kind.width))
 
 pub answer_is : (a b : AnswerText) → a.text ≡ b.text → a.fault ≡ b.fault → a ≡ b
 answer_is a b t f =
@@ -55,8 +55,8 @@ found_one : (q : Question) (list : List (List ℕ)) (a b : AnswerText) → IsFou
 found_one q list a b x y =
     let n : ℕ = q.kind.width in
     let s : x.signed ≡ y.signed = sign_rule_is_the_one q.radix q.kind.signed x.signed y.signed list x.sign y.sign in
-    let F : Bool → Type 0 = λ t. IsFinest q.radix t n list x.frac in
-    let f : x.frac ≡ y.frac = finest_is_the_one q.radix y.signed n x.frac y.frac list (subst F s x.finest) y.finest in
+    let F : Bool → Type 0 = λ t. IsFinest q.radix (choice t q.fractions) n list x.frac in
+    let f : x.frac ≡ y.frac = finest_is_the_one q.radix (choice y.signed q.fractions) n x.frac y.frac list (subst F s x.finest) y.finest in
     let R : Bool → Type 0 = λ t. IsReason q t list x.frac x.reason in
     let G : ℕ → Type 0 = λ g. IsReason q y.signed list g x.reason in
     let W : Bool → Type 0 = λ t. IsErrorWord q.is_range q.radix (format_of t n x.frac) list x.error in
@@ -74,15 +74,20 @@ none_one : (q : Question) (list : List (List ℕ)) (a b : AnswerText) → IsNone
 none_one q list a b x y =
     let s : x.signed ≡ y.signed = sign_rule_is_the_one q.radix q.kind.signed x.signed y.signed list x.sign y.sign in
     let F : Bool → Type 0 = λ t. IsFirstExceeding q.radix t q.kind.width 0 list x.place in
-    let p : x.place ≡ y.place = place_one q.radix y.signed q.kind.width 0 list x.place y.place (subst F s x.first) y.first in
-    answer_is a b (x.text ∙ (ap (λ k. codes "none line " ++ (decimal k ++ 10 ∷ [])) p ∙ sym y.text)) (x.fault ∙ sym y.fault)
+    let all : ℕ = frac_lengths q.fractions q.kind.width in
+    let p : x.place ≡ y.place = ⊎_elim
+    (λ (some : 0 < all). place_one q.radix y.signed q.kind.width 0 list x.place y.place (subst F s (x.first some)) (y.first some))
+    (λ (none : all ≤ 0). x.never (λ some. omega (arith, none, some)) ∙ sym (y.never (λ some. omega (arith, none, some))))
+    (cases_lt 0 all) in
+    answer_is a b (x.text ∙ (ap none_line p ∙ sym y.text)) (x.fault ∙ sym y.fault)
 
 found_not_none : (q : Question) (list : List (List ℕ)) (a b : AnswerText) → IsFoundAnswer q list a → IsNoneAnswer q list b → ⊥
 found_not_none q list a b x y =
     let s : x.signed ≡ y.signed = sign_rule_is_the_one q.radix q.kind.signed x.signed y.signed list x.sign y.sign in
-    let F : Bool → Type 0 = λ t. IsFinest q.radix t q.kind.width list x.frac in
-    let finest : IsFinest q.radix y.signed q.kind.width list x.frac = subst F s x.finest in
-    exceeding_not q.radix y.signed q.kind.width 0 list y.place y.first (all_fit_each_shorter q.radix y.signed q.kind.width x.frac 0 list (omega arith) finest.fit)
+    let F : Bool → Type 0 = λ t. IsFinest q.radix (choice t q.fractions) q.kind.width list x.frac in
+    let finest : IsFinest q.radix (choice y.signed q.fractions) q.kind.width list x.frac = subst F s x.finest in
+    let chosen = finest.chosen in
+    exceeding_not q.radix y.signed q.kind.width 0 list y.place (y.first (omega (arith, chosen))) (all_fit_each_shorter q.radix y.signed q.kind.width x.frac 0 list (omega arith) finest.fit)
 
 numeral_at : (r : Radix) (before : List (List ℕ)) (line : List ℕ) (after : List (List ℕ)) → AllNumerals r (before ++ line ∷ after) → IsNumeral r line
 numeral_at r [] line after all = all.0

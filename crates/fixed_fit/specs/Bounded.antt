@@ -1,45 +1,43 @@
--- What is written about a list of which the least format within an error is asked for.
-use Rattle.std.specs.Prelude.{◌≡◌, ◌⊎◌, ◌≤◌, nat_lt, ℕ, Bool, true, false, if◌then◌else◌, List, ◌++◌, [], ◌∷◌}
+-- The text that is written about a list if the least format within an error is requested.
+use Rattle.std.specs.Prelude.{◌≡◌, ◌⊎◌, ◌≤◌, ℕ, Bool, true, false, List, ◌++◌, [], ◌∷◌}
 use Rattle.std.specs.Prelude.{codes, decimal}
 use Rattle.fixed_least.specs.Holding.{AllNumerals}
 use Rattle.fixed_least.specs.Least.{IsFaultAnswer}
 use Rattle.line_engine.specs.AnswerText.{AnswerText}
 use Rattle.line_engine.specs.Lines.{lines}
-use Rattle.fixed_fit.specs.Answer.{IsReason, format_of, name_of}
+use Rattle.fixed_fit.specs.Answer.{IsReason, format_of, from_line, name_of, none_line}
 use Rattle.fixed_fit.specs.ErrorWord.{IsErrorWord}
-use Rattle.fixed_fit.specs.Fitting.{IsSignRule}
+use Rattle.fixed_fit.specs.Fitting.{IsSignRule, choice}
 use Rattle.fixed_fit.specs.Within.{IsLeastWithin, IsNextBelow, IsTried, IsUnservedFrom}
 use Rattle.fixed_fit.specs.declared.question.Question.{Question}
 use Rattle.fixed_fit.specs.declared.question.Widths.{Widths}
 use Rattle.fixed_fit.specs.declared.question.Widths.TheVariants.{One}
 
--- the place of a line, from 1, after its word; nothing for 0
-abbrev pub from_line : ℕ → List ℕ
-from_line place = if nat_lt 0 place then codes " line " ++ decimal place else []
-
--- the same question of another width
+-- the same question for another width
 abbrev pub at_width : Question → ℕ → Question
 at_width q n = record {
   radix = q.radix;
   kind = format_of q.kind.signed n q.kind.frac;
+  fractions = q.fractions;
   is_reason_asked = q.is_reason_asked;
   is_range = q.is_range;
 }
 
--- what says from which line on no format of a width serves
+-- the line that says from which line on no format of a width serves
 abbrev pub width_line : ℕ → ℕ → List ℕ
 width_line n place = codes "width " ++ (decimal n ++ (from_line place ++ 10 ∷ []))
 
--- why no lesser width serves: the line from which on no format of the next lesser one does; nothing where no lesser one
--- is tried, or where it is not asked for
+-- why no lesser width serves: the line from which on no format of the next lesser one does; nothing if no lesser one is
+-- tried, or if the reason is not requested
 pub record IsWidthReason (q : Question) (widths : Widths) (bound : List ℕ) (s : Bool) (list : List (List ℕ)) (n : ℕ)
     (text : List ℕ) : Type 0 where
   pub unasked : q.is_reason_asked ≡ false → text ≡ []
   pub no_lesser : ((m : ℕ) → IsTried widths q.kind.width m → n ≤ m) → text ≡ []
   pub next : q.is_reason_asked ≡ true → (m : ℕ) → IsNextBelow widths q.kind.width n m
-      → (place : ℕ) × IsUnservedFrom q.is_range q.radix s bound One m list place × (text ≡ width_line m place)
+      → (place : ℕ) × IsUnservedFrom q.is_range q.radix (choice s q.fractions) bound One m list place
+      × (text ≡ width_line m place)
 
--- the least format within the bound is named, and the greatest error in it
+-- the answer names the least format within the bound and the greatest error in it
 pub record IsBoundedFound (q : Question) (widths : Widths) (bound : List ℕ) (list : List (List ℕ))
     (answer : AnswerText) : Type 0 where
   pub numerals : AllNumerals q.radix list
@@ -47,7 +45,8 @@ pub record IsBoundedFound (q : Question) (widths : Widths) (bound : List ℕ) (l
   pub sign : IsSignRule q.radix q.kind.signed list signed
   pub width : ℕ
   pub frac : ℕ
-  pub least : IsLeastWithin q.is_range q.radix signed bound widths q.kind.width list width frac
+  pub least : IsLeastWithin q.is_range q.radix (choice signed q.fractions) bound widths q.kind.width list width
+      frac
   pub error : List ℕ
   pub is_error : IsErrorWord q.is_range q.radix (format_of signed width frac) list error
   pub reason : List ℕ
@@ -57,22 +56,18 @@ pub record IsBoundedFound (q : Question) (widths : Widths) (bound : List ℕ) (l
   pub text : answer.text ≡ name_of signed width frac ++ (codes " error " ++ (error ++ 10 ∷ (reason ++ lesser)))
   pub fault : answer.fault ≡ false
 
--- what says from which line on no format serves
-abbrev pub none_line : ℕ → List ℕ
-none_line place = codes "none" ++ (from_line place ++ 10 ∷ [])
-
--- no format serves, and the first line with which none does is named, where there is one
+-- no format serves, and the answer names the first line with which none does, if there is one
 pub record IsBoundedNone (q : Question) (widths : Widths) (bound : List ℕ) (list : List (List ℕ))
     (answer : AnswerText) : Type 0 where
   pub numerals : AllNumerals q.radix list
   pub signed : Bool
   pub sign : IsSignRule q.radix q.kind.signed list signed
   pub place : ℕ
-  pub first : IsUnservedFrom q.is_range q.radix signed bound widths q.kind.width list place
+  pub first : IsUnservedFrom q.is_range q.radix (choice signed q.fractions) bound widths q.kind.width list place
   pub text : answer.text ≡ none_line place
   pub fault : answer.fault ≡ true
 
--- the answer to an input: a line is no numeral, and the first such line is named; or its list of numerals is answered
+-- the answer to an input: it names the first line that is not a numeral, or it answers a list of numerals
 abbrev pub IsBoundedAnswer : Question → Widths → List ℕ → List ℕ → AnswerText → Type 0
 IsBoundedAnswer q widths bound input answer = IsFaultAnswer q.radix input answer
     ⊎ (IsBoundedFound q widths bound (lines input) answer ⊎ IsBoundedNone q widths bound (lines input) answer)

@@ -20,12 +20,12 @@ pub record IsSizeText (r : Radix) (f : FormatParts) (numeral text : List ℕ) : 
   pub shown : IsShownError NearestEven r numeral f Checked signed
   pub text_is : text ≡ without_minus signed
 
--- the lines, the first of them at a place
+-- the lines with their places, the first of them at `place`
 abbrev pub entries_from : ℕ → List (List ℕ) → List Entry
 entries_from place [] = []
 entries_from place (line ∷ lines) = record { place = place; numeral = line } ∷ entries_from (suc place) lines
 
--- text is the size of the error of the first of the lines that has the greatest in a format
+-- text is the size of the greatest error in a format, that of the first of the lines that has it
 pub record IsGreatestText (r : Radix) (f : FormatParts) (lines : List (List ℕ)) (text : List ℕ) : Type 0 where
   pub place : ℕ
   pub numeral : List ℕ
@@ -36,8 +36,8 @@ pub record IsGreatestText (r : Radix) (f : FormatParts) (lines : List (List ℕ)
 unfoldable pub half_ulp : ℕ → List ℕ
 half_ulp f = codes "0." ++ (replicate f 48 ++ 49 ∷ [])
 
--- text is the greatest error in a format: half an ulp for every value of a range; of lines the greatest that one has,
--- and 0 where there is none
+-- text is the greatest error in a format: half an ulp for every value of a range; for lines, the greatest error of one,
+-- or 0 if there are none
 abbrev pub IsErrorWord : Bool → Radix → FormatParts → List (List ℕ) → List ℕ → Type 0
 IsErrorWord true r f lines text = IsSizeText Bin f (half_ulp f.frac) text
 IsErrorWord false r f lines text = ((lines ≡ []) × (text ≡ codes "0")) ⊎ IsGreatestText r f lines text

@@ -8,9 +8,10 @@ use Rattle.fixed_numeral.specs.Numeral.{HasNumeral, Parts, signed}
 use Rattle.fixed_numeral.specs.Value.{magnitude}
 use Rattle.fixed_numeral.specs.declared.radix.Radix.{Radix}
 use Rattle.fixed_read.specs.Reading.{IsReadNumber}
+use Rattle.fixed_fit.specs.Fitting.{Choice}
 use Rattle.fixed_fit.specs.Within.{Serves}
 
--- the number with these parts is at most that with those
+-- the number with parts p is at most the number with parts q
 abbrev pub IsAtMost : Radix → Parts → Parts → Type 0
 IsAtMost r p q = signed p.sign ((magnitude r p).num * (magnitude r q).den)
     ≤ℤ signed q.sign ((magnitude r q).num * (magnitude r p).den)
@@ -21,12 +22,12 @@ pub record IsFitting (r : Radix) (s : Bool) (n f : ℕ) (p : Parts) : Type 0 whe
   pub read : IsReadNumber NearestEven r p f number
   pub in_range : IsInRange s n number
 
--- where two numbers are in range each number between them is
+-- if two numbers are in range, so is each number between them
 abbrev pub EndsDecide : Type 0
 EndsDecide = (r : Radix) (s : Bool) (n f : ℕ) (low high p : Parts) → IsAtMost r low p → IsAtMost r p high
     → IsFitting r s n f low → IsFitting r s n f high → IsFitting r s n f p
 
--- and its error is at most the bound
+-- the number with these parts is in range after rounding to nearest, and its error is at most the bound
 pub record IsFittingWithin (r : Radix) (s : Bool) (n f : ℕ) (bound : List ℕ) (p : Parts) : Type 0 where
   pub number : ℤ
   pub read : IsReadNumber NearestEven r p f number
@@ -35,8 +36,8 @@ pub record IsFittingWithin (r : Radix) (s : Bool) (n f : ℕ) (bound : List ℕ)
   pub bound_numeral : HasNumeral r bound bound_parts
   pub at_most : ErrorSize.IsAtMost (error_size (magnitude r p) f read.ulps) (magnitude r bound_parts)
 
--- where a format serves a range each number between its ends is in range in it, with an error within the bound
+-- if a format serves a range, each number between its ends is in range in it, with an error within the bound
 abbrev pub RangeServesEach : Type 0
-RangeServesEach = (r : Radix) (s : Bool) (bound low high : List ℕ) (n f : ℕ) (l h p : Parts) → HasNumeral r low l
-    → HasNumeral r high h → IsAtMost r l p → IsAtMost r p h → Serves true r s bound (low ∷ high ∷ []) n f
-    → IsFittingWithin r s n f bound p
+RangeServesEach = (r : Radix) (c : Choice) (bound low high : List ℕ) (n f : ℕ) (l h p : Parts) → HasNumeral r low l
+    → HasNumeral r high h → IsAtMost r l p → IsAtMost r p h → Serves true r c bound (low ∷ high ∷ []) n f
+    → IsFittingWithin r c.signed n f bound p

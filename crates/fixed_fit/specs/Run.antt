@@ -1,5 +1,5 @@
--- What is made of a list, and what a run over it leaves.
-use Rattle.std.specs.Prelude.{◌≡◌, ◌-◌, ◌^◌, ℕ, Bool, List, [], Option, Some, None, Result}
+-- The answer that is made of a list, and the effects of a run over it.
+use Rattle.std.specs.Prelude.{◌≡◌, ℕ, Bool, List, [], Option, Some, None, Result}
 use Rattle.std.specs.declared.convert.Infallible.{Infallible}
 use Rattle.line_engine.specs.AnswerText.{AnswerText}
 use Rattle.line_engine.specs.declared.status.Status.{Status}
@@ -20,21 +20,18 @@ use Rattle.fixed_fit.specs.declared.question.Question.{Question}
 use Rattle.fixed_fit.specs.declared.question.Widths.{Widths}
 use Rattle.fixed_fit.specs.declared.reader.FitList.{FitList}
 
--- how many bytes an input has at most
-abbrev pub most_bytes : ℕ
-most_bytes = 2 ^ 62 - 1
-
--- the answer to an input: that of a width, or that of some widths within a bound
+-- the answer to an input: for a width, or for some widths within a bound
 abbrev pub IsAnswerTo : Question → Option Widths → List ℕ → List ℕ → AnswerText → Type 0
 IsAnswerTo q None bound input answer = IsAnswer q input answer
 IsAnswerTo q (Some widths) bound input answer = IsBoundedAnswer q widths bound input answer
 
--- of which formats the lines are kept
+-- the request for which the lines are kept
 abbrev pub asked_by : Question → Option Widths → List ℕ → Asked
-asked_by q None bound = unbounded q.kind.width
-asked_by q (Some widths) bound = bounded q.is_range (most_width widths q.kind.width) bound widths q.kind.width
+asked_by q None bound = unbounded q.kind.width q.fractions
+asked_by q (Some widths) bound = bounded q.is_range (most_width widths q.kind.width) q.fractions bound widths
+    q.kind.width
 
--- the one answer to an input was made of it
+-- text, fault and unfit are those of the only answer to the input
 pub record Answers (q : Question) (widths : Option Widths) (bound input text : List ℕ) (fault : Bool)
     (unfit : Option Unfit) : Type 0 where
   pub answer : Result (List ℕ) Unfit
@@ -44,7 +41,7 @@ pub record Answers (q : Question) (widths : Option Widths) (bound input text : L
   pub fault_is : fault ≡ (said answer).fault
   pub unfit_is : unfit ≡ why_of answer
 
--- what is made of a list, by how the machine stands with it: nothing before its end
+-- the text that is made of a list, by the state of the machine: nothing before its end
 abbrev pub MakesFit : Question → Option Widths → List ℕ → List ℕ → List ℕ → How Infallible → FitList → Type 0
 MakesFit q widths bound bytes text going list = (text ≡ []) × HasRead q.radix (asked_by q widths bound) bytes
     list.reader
@@ -56,9 +53,9 @@ abbrev pub MakesBy : FitList → List ℕ → List ℕ → ℕ → How Infallibl
 MakesBy first bytes text spent how last = (last.question ≡ first.question) × (last.widths ≡ first.widths)
     × (last.bound ≡ first.bound) × MakesFit first.question first.widths first.bound.items bytes text how last
 
--- what a run that ended so has taken, made and written; a and b are what was seen of both devices before and after it,
--- by names for them
-pub record HasFitRun (q : Question) (widths : Option Widths) (bound : List ℕ) (a b : ℕ → ℕ → Seen)
+-- what a run within a limit that ended with this status has taken, made and written; a and b are what was seen of both
+-- devices before and after it, by names for them
+pub record HasFitRun (limit : ℕ) (q : Question) (widths : Option Widths) (bound : List ℕ) (a b : ℕ → ℕ → Seen)
     (unfit : Option Unfit) (status : Status) : Type 0 where
   pub first : FitList
   pub last : Cut FitList
@@ -72,6 +69,6 @@ pub record HasFitRun (q : Question) (widths : Option Widths) (bound : List ℕ) 
   pub widths_are : first.widths ≡ widths
   pub bound_is : first.bound.items ≡ bound
   pub ends : IsStatus end status
-  pub run : HasRun (λ bytes text spent how it. MakesBy first bytes text spent how it.0) last most_bytes
+  pub run : HasRun (λ bytes text spent how it. MakesBy first bytes text spent how it.0) last limit
       (moment (a source sink) [] steps) (moment (b source sink) held steps') end
   pub unfit_is : unfit ≡ last.0.unfit

@@ -1,4 +1,4 @@
-//! What is written about a list.
+//! The answer to a list.
 
 ghost use Rattle.std.specs.Prelude.{◌≡◌, ◌<◌, ◌≤◌, ◌+◌, ◌++◌, ◌∷◌, [], List};
 ghost use Rattle.std.specs.Prelude.{ℕ, OnErr, OnOk, length, true, false, codes, decimal};
@@ -7,8 +7,7 @@ ghost use Rattle.line_engine.specs.Lines.{lines};
 ghost use Rattle.run_engine.specs.Seen.{Breaks, Puts};
 ghost use Rattle.fixed_error.specs.Errors.{HasGreatestErrors};
 ghost use Rattle.fixed_show.specs.Blocks.{Appends};
-ghost use Rattle.fixed_fit.specs.Answer.{IsAnswer, format_of, name_of};
-ghost use Rattle.fixed_fit.specs.Bounded.{from_line};
+ghost use Rattle.fixed_fit.specs.Answer.{IsAnswer, format_of, from_line, name_of};
 ghost use Rattle.fixed_fit.specs.ErrorWord.{IsErrorWord, entries_from};
 ghost use Rattle.fixed_fit.specs.Fitting.{AllFit};
 ghost use Rattle.fixed_fit.specs.Unfit.{named, said, unfit_text, why_of};
@@ -17,7 +16,7 @@ ghost use Rattle.fixed_fit.specs.Inner.Reading.{HasLines};
 ghost use Rattle.fixed_fit.specs.Inner.Serving.{lesser_of, unbounded};
 
 use crate::error_word::{push_half, push_size};
-use crate::lengths::{Lengths, with_frac};
+use crate::lengths::{Lengths, frac_lengths, with_frac};
 use crate::progress::is_either;
 use crate::question::Question;
 use crate::reader::Reader;
@@ -33,31 +32,31 @@ use run_engine::{Gathered, Streams};
 use std::sync::ledger::Ledger;
 use text_buffer::TextBuffer;
 
-/// How many bytes an answer has at most.
+/// The greatest length of an answer in bytes.
 pub const MOST: usize = 1536;
 
 /// Why no format is named.
 #[derive(Clone, Copy, Debug, PartialEq, Eq)]
 pub enum Unfit {
-    /// The line at this place, from 1, is not a numeral, for this reason.
+    /// This line, counted from 1, is not a numeral, for this reason.
     NotNumeral {
-        /// Which line.
+        /// The line number.
         place: u64,
-        /// Why.
+        /// The reason.
         error: ParseFixedError,
     },
-    /// No format of the width fits the lines up to the one at this place.
+    /// No format of the width fits the lines up to this line number; 0 if no format may be chosen.
     NoneFits(u64),
-    /// No format fits within the error from the line at this place on; 0 where none does whatever the lines.
+    /// No format fits within the error from this line number on; 0 if no format does, whatever the lines.
     NoneServes(u64),
 }
 
-/// The text that names a format, or why there is none.
+/// The text that names a format, or the reason why no format is named.
 pub type Answer = Result<TextBuffer<MOST>, Unfit>;
 
 /// Appends the name of a format by its kind and its fraction length.
 fn push_name(out: &mut TextBuffer<MOST>, kind: Format, frac: u32)
-    requires within { frac ≤ kind.width }
+    requires within { frac ≤ 64 }
     requires room { length out.old + 16 ≤ 1536 }
     ensures appended { out.new ≡ out.old ++ name_of kind.signed kind.width frac }
     ensures short { length out.new ≤ length out.old + 16 }
@@ -76,7 +75,7 @@ fn push_number(out: &mut TextBuffer<MOST>, number: u64)
     out.push_bytes(digits.format(number).as_bytes());
 }
 
-/// Appends from which line on, where there is one.
+/// Appends ` line ` and a line number, unless the number is 0.
 fn push_from(out: &mut TextBuffer<MOST>, place: u64)
     requires room { length out.old + 26 ≤ 1536 }
     ensures appended { out.new ≡ out.old ++ from_line place }
@@ -88,7 +87,7 @@ fn push_from(out: &mut TextBuffer<MOST>, place: u64)
     }
 }
 
-/// Appends a line's place in decimal, and a newline.
+/// Appends a line number in decimal and a newline.
 fn push_place(out: &mut TextBuffer<MOST>, place: u64)
     requires room { length out.old + 21 ≤ 1536 }
     ensures appended { out.new ≡ out.old ++ (decimal place ++ 10 ∷ []) }
@@ -99,20 +98,23 @@ fn push_place(out: &mut TextBuffer<MOST>, place: u64)
     out.push(b'\n');
 }
 
-/// Appends the line that rules out the next longer fraction length, where there is one and it is asked for.
-fn push_reason(out: &mut TextBuffer<MOST>, kind: Format, frac: u32, place: u64, is_asked: bool)
+/// Appends the line that rules out the next longer fraction length, if that length exists and the reason is requested.
+fn push_reason(out: &mut TextBuffer<MOST>, kind: Format, frac: u32, place: u64, question: &Question)
+    requires within { frac ≤ 64 }
     requires room { length out.old + 43 ≤ 1536 }
-    ensures appended { out.new ≡ out.old ++ reason_of is_asked kind.signed kind.width frac place }
+    ensures appended { out.new ≡ out.old ++ reason_of question.now.fractions question.now.is_reason_asked kind.signed
+        kind.width frac place }
     ensures short { length out.new ≤ length out.old + 43 }
 {
-    if is_asked && frac < kind.width() {
+    let count = frac_lengths(question.fractions, kind.width());
+    if question.is_reason_asked && frac + 1 < count {
         push_name(out, kind, frac + 1);
         out.push_bytes(b" line ");
         push_place(out, place);
     }
 }
 
-/// What is written where no format is named.
+/// Returns the text of an answer that names no format.
 pub fn unfit_text(unfit: Unfit) -> TextBuffer<MOST>
     ensures { result ≡ unfit_text unfit }
 {
@@ -125,11 +127,7 @@ pub fn unfit_text(unfit: Unfit) -> TextBuffer<MOST>
             text.push_bytes(error.message().as_bytes());
             text.push(b'\n');
         }
-        Unfit::NoneFits(place) => {
-            text.push_bytes(b"none line ");
-            push_place(&mut text, place);
-        }
-        Unfit::NoneServes(place) => {
+        Unfit::NoneFits(place) | Unfit::NoneServes(place) => {
             text.push_bytes(b"none");
             push_from(&mut text, place);
             text.push(b'\n');
@@ -138,7 +136,7 @@ pub fn unfit_text(unfit: Unfit) -> TextBuffer<MOST>
     text
 }
 
-/// Why an answer names no format.
+/// Returns the reason why an answer names no format, if it names none.
 pub fn why(answer: &Answer) -> Option<Unfit>
     ensures { result ≡ why_of answer.now }
 {
@@ -148,7 +146,7 @@ pub fn why(answer: &Answer) -> Option<Unfit>
     }
 }
 
-/// Puts an answer.
+/// Writes an answer.
 pub fn put_answer<I: Streams>(answer: &Answer, out: &mut Gathered<I>) -> Result<(), Failed>
     ensures ok { OnOk result (Puts (I.seen out.old.io) (I.seen out.new.io) out.old.text out.new.text
         (said answer.now).text) }
@@ -160,7 +158,7 @@ pub fn put_answer<I: Streams>(answer: &Answer, out: &mut Gathered<I>) -> Result<
     }
 }
 
-/// Why no format is named where a line is not a numeral.
+/// Returns the reason for a line that is not a numeral.
 pub fn no_numeral(fault: LeastFault) -> Unfit
     ensures { unfit_text result ≡ fault_line fault }
 {
@@ -168,7 +166,8 @@ pub fn no_numeral(fault: LeastFault) -> Unfit
     Unfit::NotNumeral { place, error }
 }
 
-/// Appends from which line on no format of the width next below serves, where one is tried and it is asked for.
+/// Appends the line from which on no format of the next lesser width serves, if one is tried and the reason is
+/// requested.
 pub fn push_lesser(out: &mut TextBuffer<MOST>, below: u32, place: u64, is_asked: bool)
     requires room { length out.old + 53 ≤ 1536 }
     ensures { out.new ≡ out.old ++ lesser_of is_asked below place }
@@ -190,7 +189,7 @@ fn push_error<L: Ledger>(
     question: &Question,
     steps: &mut Steps<L>,
 )
-    requires within { frac ≤ kind.width }
+    requires within { frac ≤ 64 }
     requires kept { frac < length errors.now.errors.items }
     requires known { (count : ℕ) × (list : List (List ℕ))
         × HasGreatestErrors question.now.radix count (entries_from 1 list) errors.now
@@ -213,7 +212,7 @@ fn push_error<L: Ledger>(
     }
 }
 
-/// The answer that names a format by its kind and its fraction length.
+/// Returns the answer that names a format by its kind and its fraction length.
 pub fn found_answer<L: Ledger>(
     errors: &GreatestErrors,
     kind: Format,
@@ -222,7 +221,7 @@ pub fn found_answer<L: Ledger>(
     question: &Question,
     steps: &mut Steps<L>,
 ) -> TextBuffer<MOST>
-    requires within { frac ≤ kind.width }
+    requires within { frac ≤ 64 }
     requires kept { frac < length errors.now.errors.items }
     requires known { (count : ℕ) × (list : List (List ℕ))
         × HasGreatestErrors question.now.radix count (entries_from 1 list) errors.now
@@ -237,11 +236,11 @@ pub fn found_answer<L: Ledger>(
     text.push_bytes(b" error ");
     push_error(&mut text, errors, kind, frac, question, steps);
     text.push(b'\n');
-    push_reason(&mut text, kind, frac, place, question.is_reason_asked);
+    push_reason(&mut text, kind, frac, place, question);
     text
 }
 
-/// The answer by the fraction lengths that are left.
+/// Returns the answer for the fraction lengths that are left.
 fn lengths_answer<L: Ledger>(
     lengths: &Lengths,
     errors: &GreatestErrors,
@@ -250,7 +249,7 @@ fn lengths_answer<L: Ledger>(
 ) -> Answer
     requires known { (count : ℕ) × (list : List (List ℕ))
         × HasGreatestErrors question.now.radix count (entries_from 1 list) errors.now
-        × AreLengths question.now.radix list lengths.now × lengths.now.count ≤ count }
+        × AreLengths question.now.fractions question.now.radix list lengths.now × lengths.now.count ≤ count }
     ensures { (count : ℕ) (list : List (List ℕ))
         → HasGreatestErrors question.now.radix count (entries_from 1 list) errors.now
         → IsLengthsAnswer question.now list lengths.now (said result) }
@@ -263,13 +262,13 @@ fn lengths_answer<L: Ledger>(
     Ok(found_answer(errors, all.kind, count - 1, all.place, question, steps))
 }
 
-/// The answer to an input, by what is known of its lines.
+/// Returns the answer to an input from what is known of its lines.
 pub fn answer_of<L: Ledger>(reader: &Reader, question: &Question, steps: &mut Steps<L>) -> Answer
     requires { (list : List (List ℕ))
-        × HasLines question.now.radix (unbounded question.now.kind.width) list reader.now }
+        × HasLines question.now.radix (unbounded question.now.kind.width question.now.fractions) list reader.now }
     ensures { (input : List ℕ)
-        → HasLines question.now.radix (unbounded question.now.kind.width) (lines input) reader.now
-        → IsAnswer question.now input (said result) }
+        → HasLines question.now.radix (unbounded question.now.kind.width question.now.fractions) (lines input)
+        reader.now → IsAnswer question.now input (said result) }
 {
     let known = reader.progress;
     match known.fault {

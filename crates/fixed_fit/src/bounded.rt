@@ -1,10 +1,12 @@
-//! What is written about a list of which the least format within an error is asked for.
+//! The answer to a list if the least format within an error is requested.
 
 ghost use Rattle.std.specs.Prelude.{◌≡◌, ◌<◌, ◌≤◌, List, ℕ, Bool, true, false};
 ghost use Rattle.line_engine.specs.Lines.{lines};
 ghost use Rattle.fixed_error.specs.Errors.{HasGreatestErrors};
-ghost use Rattle.fixed_fit.specs.Bounded.{IsBoundedAnswer, none_line};
+ghost use Rattle.fixed_fit.specs.Answer.{none_line};
+ghost use Rattle.fixed_fit.specs.Bounded.{IsBoundedAnswer};
 ghost use Rattle.fixed_fit.specs.ErrorWord.{entries_from};
+ghost use Rattle.fixed_fit.specs.Fitting.{choice};
 ghost use Rattle.fixed_fit.specs.Inner.Reading.{HasLines};
 ghost use Rattle.fixed_fit.specs.Inner.Serving.{AreAllLeft, IsBelow, IsServingAnswer, bounded, most_left};
 ghost use Rattle.fixed_fit.specs.Unfit.{said};
@@ -14,12 +16,12 @@ use crate::answer::{Answer, Unfit, found_answer, no_numeral, push_lesser};
 use crate::progress::is_either;
 use crate::question::{Question, Widths};
 use crate::reader::Reader;
-use crate::serving::Serving;
+use crate::serving::{Serving, best_of};
 use fixed_error::GreatestErrors;
 use fixed_steps::Steps;
 use std::sync::ledger::Ledger;
 
-/// The width next below one that is tried, 0 where none is tried.
+/// Returns the next lesser width that is tried, or 0 if there is none.
 fn width_below(widths: Widths, one: u32, width: u32) -> u32
     requires { IsTried widths one width }
     ensures { IsBelow widths one width result }
@@ -32,7 +34,7 @@ fn width_below(widths: Widths, one: u32, width: u32) -> u32
     }
 }
 
-/// The answer by the formats that serve.
+/// Returns the answer for the formats that serve.
 fn serving_answer<L: Ledger>(
     serving: &Serving,
     errors: &GreatestErrors,
@@ -44,7 +46,7 @@ fn serving_answer<L: Ledger>(
     requires served { serving.now.is_served ≡ true → serving.now.low < most_left serving.now.lengths.items }
     requires known { serving.now.is_served ≡ true → (count : ℕ) × (list : List (List ℕ)) × (s : Bool)
         × HasGreatestErrors question.now.radix count (entries_from 1 list) errors.now
-        × AreAllLeft question.now.radix s list serving.now.lengths.items
+        × AreAllLeft question.now.radix (choice s question.now.fractions) list serving.now.lengths.items
         × most_left serving.now.lengths.items ≤ count }
     ensures none_text { serving.now.is_served ≡ false → (said result).text ≡ none_line serving.now.place }
     ensures none_fault { serving.now.is_served ≡ false → (said result).fault ≡ true }
@@ -55,7 +57,7 @@ fn serving_answer<L: Ledger>(
     if !serving.is_served {
         return Err(Unfit::NoneServes(serving.place));
     }
-    let best = serving.best();
+    let best = best_of(serving.low, &serving.lengths);
     let mut found = found_answer(
         errors,
         best.kind,
@@ -69,7 +71,7 @@ fn serving_answer<L: Ledger>(
     Ok(found)
 }
 
-/// The answer to an input, by what is known of its lines and of the formats that they fit within a bound.
+/// Returns the answer to an input from what is known of its lines and of the formats that they fit within a bound.
 pub fn bounded_answer<L: Ledger>(
     reader: &Reader,
     question: &Question,
@@ -77,11 +79,11 @@ pub fn bounded_answer<L: Ledger>(
     steps: &mut Steps<L>,
 ) -> Answer
     requires { (bound : List ℕ) × (list : List (List ℕ))
-        × HasLines question.now.radix (bounded question.now.is_range (most_width widths question.now.kind.width) bound
-        widths question.now.kind.width) list reader.now }
+        × HasLines question.now.radix (bounded question.now.is_range (most_width widths question.now.kind.width)
+        question.now.fractions bound widths question.now.kind.width) list reader.now }
     ensures { (bound : List ℕ) (input : List ℕ)
-        → HasLines question.now.radix (bounded question.now.is_range (most_width widths question.now.kind.width) bound
-        widths question.now.kind.width) (lines input) reader.now
+        → HasLines question.now.radix (bounded question.now.is_range (most_width widths question.now.kind.width)
+        question.now.fractions bound widths question.now.kind.width) (lines input) reader.now
         → IsBoundedAnswer question.now widths bound input (said result) }
 {
     let known = reader.progress;

@@ -1,4 +1,4 @@
-//! The greatest error of a list in the format that was chosen, as it is written.
+//! The text of a list's greatest error in the chosen format.
 
 ghost use Rattle.std.specs.Prelude.{◌≡◌, ◌≤◌, ◌<◌, ◌+◌, ◌++◌, length};
 ghost use Rattle.fixed_error.specs.Greatest.{Entry};
@@ -14,10 +14,10 @@ use fixed_steps::Steps;
 use std::sync::ledger::Ledger;
 use text_buffer::TextBuffer;
 
-/// How many bytes the text of an error has at most.
+/// The greatest length of an error's text in bytes.
 const MOST_ERROR: usize = 1380;
 
-/// A text without the minus before it.
+/// Returns a text without a leading minus.
 fn without_minus(text: &[u8]) -> &[u8]
     ensures { result.now ≡ without_minus text.now }
 {
@@ -53,7 +53,7 @@ pub fn push_size<const N: usize, L: Ledger>(
     out.push_bytes(without_minus(text.as_bytes()));
 }
 
-/// Half an ulp of 2^-`frac`, as a numeral of radix 2.
+/// Returns half an ulp of 2^-`frac` as a numeral of radix 2.
 fn half_ulp(frac: u32) -> TextBuffer<67>
     requires { frac ≤ 64 }
     ensures { result ≡ half_ulp frac }

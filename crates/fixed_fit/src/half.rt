@@ -1,4 +1,4 @@
-//! Half an ulp, the error of a range, beside a bound.
+//! Compares half an ulp, the error of a range, with a bound.
 
 ghost use Rattle.std.specs.Prelude.{◌≡◌, ◌≤◌, ◌<◌, ◌↔◌, [], IsTrue, true, false, ℕ};
 ghost use Rattle.fixed_bits.specs.Formats.{IsFormat};
@@ -14,7 +14,7 @@ use fixed_read::{ReadNumber, read_format};
 use fixed_steps::Steps;
 use std::sync::ledger::Ledger;
 
-/// The mode that rounds a number of a sign away from zero.
+/// Returns the mode that rounds a number of this sign away from zero.
 fn away_from_zero(is_negative: bool) -> ReadMode
     ensures below { is_negative ≡ true → result ≡ Floor }
     ensures above { is_negative ≡ false → result ≡ Ceil }
@@ -26,7 +26,7 @@ fn away_from_zero(is_negative: bool) -> ReadMode
     }
 }
 
-/// Whether a number that was read is no ulp.
+/// Whether a number that was read is zero ulps.
 fn is_no_ulp(found: &ReadNumber) -> bool
     ensures { IsTrue result ↔ ((found.now.low ≡ 0) × (found.now.has_high_bits ≡ false)) }
 {
@@ -35,8 +35,8 @@ fn is_no_ulp(found: &ReadNumber) -> bool
 
 /// Whether half an ulp of 2^-`frac` is greater than a bound, the magnitude of a numeral.
 ///
-/// A bound between zero and an ulp is one ulp where it is rounded away from zero. That error is greater than the bound
-/// exactly where the bound is less than half an ulp.
+/// A bound between zero and an ulp is rounded away from zero to one ulp. That rounding's error is greater than the
+/// bound exactly if the bound is less than half an ulp.
 fn is_half_above<L: Ledger>(bound: &[u8], radix: Radix, frac: u32, steps: &mut Steps<L>) -> bool
     requires frac { frac ≤ 64 }
     requires numeral { IsNumeral radix bound.now }
@@ -64,8 +64,8 @@ fn is_half_above<L: Ledger>(bound: &[u8], radix: Radix, frac: u32, steps: &mut S
     }
 }
 
-/// The least fraction length at which the greatest error of no line is within a bound, 65 where none up to 64 is: of a
-/// list 0, of a range the least at which half an ulp is.
+/// Returns the least fraction length within a bound before the first line: 0 for a list; for a range the least at which
+/// half an ulp is within the bound, or 65 if no length up to 64 is.
 pub fn first_length<L: Ledger>(
     bound: &[u8],
     radix: Radix,

@@ -1,4 +1,4 @@
-//! Laws of the finest format, each the contract of a function that does nothing.
+//! Laws of the finest format. Each is the contract of a function that does nothing.
 
 ghost use Rattle.fixed_fit.specs.Range.{EndsDecide, RangeServesEach};
 ghost use Rattle.fixed_fit.specs.Laws.{BoundedAnswerIsTheOne, FirstUnservedIsTheOne, LeastWithinIsTheOne};
@@ -10,7 +10,7 @@ pub fn fits_each_shorter()
     ensures { FitsEachShorter }
 {}
 
-/// So is a list of numerals.
+/// The same holds for a list of numerals.
 pub fn all_fit_each_shorter()
     ensures { AllFitEachShorter }
 {}
@@ -30,8 +30,8 @@ pub fn answer_is_the_one()
     ensures { AnswerIsTheOne }
 {}
 
-/// Where the two ends of a range fit, every number between them fits: so the answer for a range is that for the list of
-/// its two ends.
+/// If the two ends of a range fit, every number between them fits. So the answer for a range is the answer for the list
+/// of its two ends.
 pub fn ends_decide()
     ensures { EndsDecide }
 {}
@@ -41,7 +41,7 @@ pub fn range_serves_each()
     ensures { RangeServesEach }
 {}
 
-/// The error that is written of a range is half an ulp of the format, 1 / 2^(f + 1), exactly in decimal.
+/// The error written for a range is half an ulp of the format, 1 / 2^(f + 1), exactly in decimal.
 pub fn range_error_is_half_an_ulp()
     ensures { RangeErrorIsHalfAnUlp }
 {}
@@ -51,12 +51,12 @@ pub fn least_within_is_the_one()
     ensures { LeastWithinIsTheOne }
 {}
 
-/// No format serves a list from at most one line on, or else without a line.
+/// At most one line is the first with which no format serves a list, if a format serves before the first line.
 pub fn first_unserved_is_the_one()
     ensures { FirstUnservedIsTheOne }
 {}
 
-/// Of the next lesser width that is tried no format serves from at most one line on.
+/// The reason against the next lesser width that is tried has at most one text.
 pub fn width_reason_is_the_one()
     ensures { WidthReasonIsTheOne }
 {}

@@ -6,9 +6,10 @@
 ghost use Rattle.std.specs.Prelude.{◌≡◌, ◌≤◌, ◌<◌, ◌+◌, ◌↔◌, IsTrue, true, false, ℕ};
 ghost use Rattle.fixed_bits.specs.Formats.{IsFormat};
 ghost use Rattle.fixed_numeral.specs.Numeral.{IsNumeral};
-ghost use Rattle.fixed_fit.specs.Fitting.{Exceeds, Fits};
+ghost use Rattle.fixed_fit.specs.Fitting.{Exceeds, Fits, frac_lengths};
 ghost use Rattle.fixed_fit.specs.Inner.Lengths.{AreLowered};
 
+use crate::question::Fractions;
 use fixed_bits::{Format, ReadMode};
 use fixed_numeral::Radix;
 use fixed_read::read_format;
@@ -20,9 +21,9 @@ use std::sync::ledger::Ledger;
 pub struct Lengths {
     /// A format of the sign rule and the width.
     pub kind: Format,
-    /// How many lengths are left, 0 included.
+    /// The number of lengths left, including 0.
     pub count: u32,
-    /// The place of the line that took the last one.
+    /// The number of the line that last took a length away; 0 if none did.
     pub place: u64,
 }
 
@@ -38,27 +39,41 @@ fn is_in_range<L: Ledger>(line: &[u8], radix: Radix, format: Format, steps: &mut
     }
 }
 
-/// A format of the same sign rule and width.
+/// Returns the format of the same sign rule and width with `frac` fraction bits.
 pub fn with_frac(kind: Format, frac: u32) -> Format
-    requires { frac ≤ kind.width }
+    requires { frac ≤ 64 }
     ensures { result ≡ record { signed = kind.signed; width = kind.width; frac = frac } }
 {
     Format::of(kind.signed(), kind.width(), frac)
 }
 
-/// All fraction lengths.
-pub fn all_lengths(kind: Format) -> Lengths
+/// Counts the fraction lengths, including 0, that a format of a width may have.
+pub fn frac_lengths(fractions: Fractions, width: u32) -> u32
+    requires { width ≤ 64 }
+    ensures count { result ≡ frac_lengths fractions width }
+    ensures few { result ≤ 65 }
+{
+    match fractions {
+        Fractions::Whole(least) => (width + 1).saturating_sub(least),
+        Fractions::Beyond => 65,
+    }
+}
+
+/// Returns all fraction lengths that a format of a width may have.
+pub fn all_lengths(kind: Format, fractions: Fractions) -> Lengths
     ensures kind { result.kind ≡ kind }
-    ensures all { result.count ≡ kind.width + 1 }
+    ensures all { result.count ≡ frac_lengths fractions kind.width }
+    ensures few { result.count ≤ 65 }
+    ensures place { result.place ≡ 0 }
 {
     Lengths {
         kind,
-        count: kind.width() + 1,
+        count: frac_lengths(fractions, kind.width()),
         place: 0,
     }
 }
 
-/// How many of the fraction lengths below a count a numeral leaves.
+/// Counts the fraction lengths below `count` that a numeral leaves.
 fn count_left<L: Ledger>(
     kind: Format,
     count: u32,
@@ -67,7 +82,7 @@ fn count_left<L: Ledger>(
     steps: &mut Steps<L>,
 ) -> u32
     requires numeral { IsNumeral radix line.now }
-    requires most { count ≤ kind.width + 1 }
+    requires most { count ≤ 65 }
     ensures fewer { result ≤ count }
     ensures fits { (f : ℕ) → f + 1 ≡ result → Fits radix kind.signed kind.width f line.now }
     ensures exceeds { result < count → Exceeds radix kind.signed kind.width result line.now }
@@ -82,7 +97,7 @@ fn count_left<L: Ledger>(
     0
 }
 
-/// The fraction lengths that a numeral at a place leaves.
+/// Returns the fraction lengths that the numeral of line `place` leaves.
 pub fn lowered<L: Ledger>(
     lengths: &Lengths,
     line: &[u8],
@@ -91,7 +106,7 @@ pub fn lowered<L: Ledger>(
     steps: &mut Steps<L>,
 ) -> Lengths
     requires numeral { IsNumeral radix line.now }
-    requires most { lengths.now.count ≤ lengths.now.kind.width + 1 }
+    requires most { lengths.now.count ≤ 65 }
     ensures { AreLowered radix line.now place lengths.now result }
 {
     let old = *lengths;

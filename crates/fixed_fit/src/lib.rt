@@ -1,4 +1,4 @@
-//! The finest format of a width that a list of numerals fits, or the least within an error, in one pass over the list.
+//! Finds, in one pass, the finest format of a width that a list of numerals fits, or the least format within an error.
 #![tactic(auto)]
 
 mod answer;
@@ -16,5 +16,5 @@ mod serving;
 mod short;
 
 pub use answer::Unfit;
-pub use question::{Question, Widths};
+pub use question::{Fractions, Question, Widths};
 pub use run::{FitEnd, run_fit};

@@ -13,7 +13,7 @@ use fixed_read::{ReadNumber, read_format};
 use fixed_steps::Steps;
 use std::sync::ledger::Ledger;
 
-/// Whether a numeral that was read is zero: a whole number of ulps, and none of them.
+/// Whether a numeral that was read is zero: exactly zero ulps.
 fn is_zero(found: &ReadNumber) -> bool
     ensures { IsTrue result ↔ ((found.now.exact ≡ true) × (found.now.low ≡ 0)
         × (found.now.has_high_bits ≡ false)) }
@@ -33,7 +33,7 @@ fn is_below(found: &ReadNumber) -> bool
 ///
 /// # Errors
 ///
-/// Other bytes than a numeral of the radix are refused with the kind of their cause.
+/// Refuses bytes that are not a numeral of the radix with the kind of their cause.
 pub fn is_below_zero<L: Ledger>(
     line: &[u8],
     radix: Radix,

@@ -8,6 +8,7 @@ ghost use Rattle.fixed_fit.specs.Inner.Progress.{HasProgress, HasSomeProgress};
 
 use crate::lengths::{Lengths, all_lengths, lowered};
 use crate::numeral::is_below_zero;
+use crate::question::Fractions;
 use crate::short::{FlatDecimal, is_short_below, is_within_room, room_of_both};
 use fixed_bits::Format;
 use fixed_least::LeastFault;
@@ -20,17 +21,19 @@ use std::sync::ledger::Ledger;
 pub struct Progress {
     /// The radix of the numerals.
     pub radix: Radix,
-    /// How many lines there were.
+    /// The fraction lengths allowed before the first line.
+    pub fractions: Fractions,
+    /// The number of lines.
     pub lines: u64,
-    /// The first that is not a numeral.
+    /// The first line that is not a numeral.
     pub fault: Option<LeastFault>,
     /// Whether a numeral is below zero.
     pub is_below: bool,
-    /// The fraction lengths that are left without a sign.
+    /// The fraction lengths left for unsigned formats.
     pub plain: Lengths,
-    /// The fraction lengths that are left with a sign.
+    /// The fraction lengths left for signed formats.
     pub signed: Lengths,
-    /// How many parts of 10^-18 a number may have that surely fits the longest of both.
+    /// The most parts of 10^-18 of a number that surely fits the longest length of both.
     pub room: u128,
 }
 
@@ -42,10 +45,17 @@ pub fn is_either(one: bool, other: bool) -> bool
 }
 
 impl Progress {
-    /// No line, where these lengths are left.
-    fn of_lengths(radix: Radix, plain: Lengths, signed: Lengths, room: u128) -> Progress
+    /// Returns the progress before the first line, with these lengths left.
+    fn of_lengths(
+        radix: Radix,
+        fractions: Fractions,
+        plain: Lengths,
+        signed: Lengths,
+        room: u128,
+    ) -> Progress
         ensures { result ≡ record {
           radix = radix;
+          fractions = fractions;
           lines = 0;
           fault = None;
           is_below = false;
@@ -56,6 +66,7 @@ impl Progress {
     {
         Progress {
             radix,
+            fractions,
             lines: 0,
             fault: None,
             is_below: false,
@@ -65,22 +76,24 @@ impl Progress {
         }
     }
 
-    /// No line.
-    pub fn new(radix: Radix, width: u32) -> Progress
+    /// Returns the progress before the first line.
+    pub fn new(radix: Radix, width: u32, fractions: Fractions) -> Progress
         requires { IsWidth width }
         ensures radix { result.radix ≡ radix }
+        ensures fractions { result.fractions ≡ fractions }
         ensures none { HasProgress width [] result }
     {
-        let plain = all_lengths(Format::of(false, width, 0));
-        let signed = all_lengths(Format::of(true, width, 0));
+        let plain = all_lengths(Format::of(false, width, 0), fractions);
+        let signed = all_lengths(Format::of(true, width, 0), fractions);
         let room = room_of_both(&plain, &signed);
-        Progress::of_lengths(radix, plain, signed, room)
+        Progress::of_lengths(radix, fractions, plain, signed, room)
     }
 
-    /// What is kept where a line is not a numeral.
+    /// Returns the progress after a line that is not a numeral.
     fn with_fault(&self, lines: u64, fault: Option<LeastFault>) -> Progress
         ensures { result ≡ record {
           radix = self.now.radix;
+          fractions = self.now.fractions;
           lines = lines;
           fault = fault;
           is_below = self.now.is_below;
@@ -91,6 +104,7 @@ impl Progress {
     {
         Progress {
             radix: self.radix,
+            fractions: self.fractions,
             lines,
             fault,
             is_below: self.is_below,
@@ -100,7 +114,7 @@ impl Progress {
         }
     }
 
-    /// What is kept where a line is a numeral, which leaves these lengths.
+    /// Returns the progress after a numeral that leaves these lengths.
     fn with_numeral(
         &self,
         lines: u64,
@@ -111,6 +125,7 @@ impl Progress {
     ) -> Progress
         ensures { result ≡ record {
           radix = self.now.radix;
+          fractions = self.now.fractions;
           lines = lines;
           fault = None;
           is_below = self.now.is_below || below;
@@ -121,6 +136,7 @@ impl Progress {
     {
         Progress {
             radix: self.radix,
+            fractions: self.fractions,
             lines,
             fault: None,
             is_below: is_either(self.is_below, below),
@@ -130,19 +146,20 @@ impl Progress {
         }
     }
 
-    /// How many fraction lengths are left, of the sign rule that leaves the more.
+    /// Returns the number of fraction lengths left for the sign rule that leaves more.
     pub fn count(&self) -> u32
         ensures { result ≡ max self.now.plain.count self.now.signed.count }
     {
         self.plain.count.max(self.signed.count)
     }
 
-    /// What is kept after one more line, where each before it is a numeral.
+    /// Returns the progress after one more line. Each line before it is a numeral.
     fn after<L: Ledger>(&self, line: &[u8], steps: &mut Steps<L>) -> Progress
         requires room { self.now.lines < 2 ^ 63 }
         requires known { HasSomeProgress self.now }
         requires none { self.now.fault ≡ None }
         ensures radix { result.radix ≡ self.now.radix }
+        ensures fractions { result.fractions ≡ self.now.fractions }
         ensures lines { result.lines ≡ self.now.lines + 1 }
         ensures one_more { (n : ℕ) (lines : List (List ℕ)) → HasProgress n lines self.now
             → HasProgress n (lines ++ line.now ∷ []) result }
@@ -161,13 +178,14 @@ impl Progress {
         }
     }
 
-    /// Takes one more line, by the numbers of its parts where it was read as a short decimal. Where that takes away no
-    /// length, the lengths are not written again.
+    /// Takes one more line. A short decimal that surely takes away no length is decided by the numbers of its parts,
+    /// and the lengths are not written again.
     pub fn push<L: Ledger>(&mut self, line: &[u8], flat: Option<FlatDecimal>, steps: &mut Steps<L>)
         requires room { self.old.lines < 2 ^ 63 }
         requires known { HasSomeProgress self.old }
         requires flat { IfSome flat (IsFlatRead self.old.radix line.now) }
         ensures radix { self.new.radix ≡ self.old.radix }
+        ensures fractions { self.new.fractions ≡ self.old.fractions }
         ensures lines { self.new.lines ≡ self.old.lines + 1 }
         ensures one_more { (n : ℕ) (lines : List (List ℕ)) → HasProgress n lines self.old
             → HasProgress n (lines ++ line.now ∷ []) self.new }

@@ -1,22 +1,33 @@
-//! What is asked of a list.
+//! The question about a list.
 
 use fixed_bits::Format;
 use fixed_numeral::Radix;
 
-/// What is asked of a list.
+/// The question about a list.
 #[derive(Clone, Copy, Debug, PartialEq, Eq)]
 pub struct Question {
     /// The radix of the numerals.
     pub radix: Radix,
-    /// A format of the width, which is signed where only signed formats are asked for.
+    /// A format of the width, signed if only signed formats are requested.
     pub kind: Format,
-    /// Whether it is asked which line rules out the next finer format, and within an error the next lesser width.
+    /// The fraction lengths that the format may have.
+    pub fractions: Fractions,
+    /// Whether to name the line that rules out the next finer format and, within an error, the next lesser width.
     pub is_reason_asked: bool,
-    /// Whether the list is the two ends of a range, of which every value is meant.
+    /// Whether the list is the two ends of a range.
     pub is_range: bool,
 }
 
-/// Of which widths a format within an error is asked for.
+/// The fraction lengths that a format of a width may have.
+#[derive(Clone, Copy, Debug, PartialEq, Eq)]
+pub enum Fractions {
+    /// The lengths that leave at least this many whole bits.
+    Whole(u32),
+    /// Each length up to 64, even if longer than the width.
+    Beyond,
+}
+
+/// The widths to try for a format within an error.
 #[derive(Clone, Copy, Debug, PartialEq, Eq)]
 pub enum Widths {
     /// The width of the question.

@@ -1,4 +1,4 @@
-//! The machine of a list: it keeps what is known of the lines so far, and puts the answer at the end of the input.
+//! The machine of a list: it keeps what is known of the lines so far and writes the answer at the end of the input.
 
 ghost use Rattle.std.specs.Prelude.{◌≡◌, ◌<◌, ◌++◌, ◌∷◌, [], List, ℕ, Bool, true, OnOk, IfOk, IfSome, MatchOption};
 ghost use Rattle.std.specs.Prelude.{get_or, length, take};
@@ -20,7 +20,7 @@ ghost use Rattle.fixed_fit.specs.Inner.Reading.{AreKept, HasLines, HasRead, HasS
 use crate::answer::{Answer, Unfit, answer_of, put_answer, why};
 use crate::bounded::bounded_answer;
 use crate::progress::Progress;
-use crate::question::{Question, Widths};
+use crate::question::{Fractions, Question, Widths};
 use crate::serving::{Within, most_width};
 use crate::short::{FlatDecimal, flat_decimal};
 use fixed_error::{GreatestErrors, read_short};
@@ -32,23 +32,23 @@ use std::alloc::{AllocError, Global};
 use std::convert::Infallible;
 use std::sync::ledger::Ledger;
 
-/// How many lines are counted: an input of fewer than 2^62 bytes has fewer.
+/// The most lines counted: an input of less than 2^62 bytes has fewer.
 const MOST_LINES: u64 = 4_611_686_018_427_387_904;
 
 /// What is kept of the bytes so far.
 #[derive(Drop)]
 pub struct Reader {
-    /// The line whose end has not come.
+    /// The unfinished line.
     pub line: Vec<u8>,
-    /// What is kept of the lines before it.
+    /// What is kept of the lines before the unfinished one.
     pub progress: Progress,
-    /// Their greatest errors, where each is a numeral, at the fraction lengths that are left.
+    /// The greatest errors of those lines at the fraction lengths left, if each line is a numeral.
     pub errors: GreatestErrors,
-    /// The formats that they fit within a bound, where each is a numeral.
+    /// The formats that those lines fit within a bound, if each line is a numeral.
     pub within: Within,
 }
 
-/// A numeral that was read as a short decimal, where it has no exponent.
+/// Returns a numeral that was read as a short decimal, if it has no exponent.
 #[inline(always)]
 fn flat_of(short: Option<ShortNumeral>) -> Option<FlatDecimal>
     requires { (r : Radix) × (line : List ℕ) × IfSome short (IsShortRead r line) }
@@ -104,7 +104,7 @@ fn extend(line: &mut Vec<u8>, part: &[u8]) -> Result<(), NoMemory>
 }
 
 impl Reader {
-    /// Ends the line with this part, and begins a new one. A line that is whole in the part is not copied.
+    /// Ends the line with this part and begins a new one. A line that is whole in the part is not copied.
     fn end_line<L: Ledger>(&mut self, part: &[u8], steps: &mut Steps<L>) -> Result<(), NoMemory>
         requires { HasSomeRead self.old }
         ensures line { OnOk result (self.new.line.items ≡ []) }
@@ -126,7 +126,7 @@ impl Reader {
         }
     }
 
-    /// Ends the line that began before this part, and begins a new one.
+    /// Ends the line that began before this part and begins a new one.
     #[cold]
     fn end_long_line<L: Ledger>(
         &mut self,
@@ -170,14 +170,20 @@ impl Reader {
     }
 }
 
-/// No byte so far, of a list whose formats within a bound are kept so.
-fn new_reader(alloc: Global, radix: Radix, width: u32, within: Within) -> Result<Reader, AllocError>
+/// Returns the reader before the first byte, with these formats within a bound.
+fn new_reader(
+    alloc: Global,
+    radix: Radix,
+    width: u32,
+    fractions: Fractions,
+    within: Within,
+) -> Result<Reader, AllocError>
     requires { IsWidth width }
     ensures { IfOk result (λ reader. (is range : Bool) (bound : List ℕ) (widths : Widths) (one : ℕ)
-        → within.is_bounded ≡ is → (is ≡ true → AreServed radix (asked_of width is range bound widths one) [] within)
-        → HasRead radix (asked_of width is range bound widths one) [] reader) }
+        → within.is_bounded ≡ is → (is ≡ true → AreServed radix (asked_of width fractions is range bound widths one) []
+        within) → HasRead radix (asked_of width fractions is range bound widths one) [] reader) }
 {
-    let progress = Progress::new(radix, width);
+    let progress = Progress::new(radix, width, fractions);
     let errors = GreatestErrors::new(alloc, radix, progress.count())?;
     Ok(Reader {
         line: Vec::new(alloc),
@@ -187,18 +193,23 @@ fn new_reader(alloc: Global, radix: Radix, width: u32, within: Within) -> Result
     })
 }
 
-/// No byte so far, where no bound is asked for.
-fn plain_reader(alloc: Global, radix: Radix, width: u32) -> Result<Reader, AllocError>
+/// Returns the reader before the first byte, without a bound.
+fn plain_reader(
+    alloc: Global,
+    radix: Radix,
+    width: u32,
+    fractions: Fractions,
+) -> Result<Reader, AllocError>
     requires { IsWidth width }
-    ensures { IfOk result (HasRead radix (unbounded width) []) }
+    ensures { IfOk result (HasRead radix (unbounded width fractions) []) }
 {
-    match new_reader(alloc, radix, width, Within::none(alloc)) {
+    match new_reader(alloc, radix, width, fractions, Within::none(alloc)) {
         Ok(reader) => Ok(reader),
         Err(error) => Err(error),
     }
 }
 
-/// No byte so far, where a bound is asked for.
+/// Returns the reader before the first byte, with a bound.
 fn bounded_reader<L: Ledger>(
     alloc: Global,
     question: &Question,
@@ -208,17 +219,19 @@ fn bounded_reader<L: Ledger>(
 ) -> Result<Reader, AllocError>
     requires bound { IsNumeral question.now.radix bound.now }
     ensures { IfOk result (HasRead question.now.radix (bounded question.now.is_range
-        (most_width widths question.now.kind.width) bound.now widths question.now.kind.width) []) }
+        (most_width widths question.now.kind.width) question.now.fractions bound.now widths
+        question.now.kind.width) []) }
 {
     let one = question.kind.width();
     let within = Within::new(alloc, question, bound, widths, steps)?;
-    match new_reader(alloc, question.radix, most_width(widths, one), within) {
+    let most = most_width(widths, one);
+    match new_reader(alloc, question.radix, most, question.fractions, within) {
         Ok(reader) => Ok(reader),
         Err(error) => Err(error),
     }
 }
 
-/// No byte so far, of a list of which this is asked.
+/// Returns the reader before the first byte, for a question.
 fn asked_reader<L: Ledger>(
     alloc: Global,
     question: &Question,
@@ -230,28 +243,31 @@ fn asked_reader<L: Ledger>(
     ensures { IfOk result (HasRead question.now.radix (asked_by question.now widths bound.now) []) }
 {
     match widths {
-        None => plain_reader(alloc, question.radix, question.kind.width()),
+        None => {
+            let width = question.kind.width();
+            plain_reader(alloc, question.radix, width, question.fractions)
+        }
         Some(some) => bounded_reader(alloc, question, bound, some, steps),
     }
 }
 
-/// A list that is read, and the format that is asked of it.
+/// A list that is read, and the question about it.
 #[derive(Drop)]
 pub struct FitList {
-    /// What is asked.
+    /// The question.
     pub question: Question,
-    /// Of which widths the format is, where one within an error is asked for.
+    /// The widths to try, if a format within an error is requested.
     pub widths: Option<Widths>,
-    /// That error: the magnitude of a numeral.
+    /// The greatest error allowed: the magnitude of a numeral.
     pub bound: Vec<u8>,
     /// What is kept of the bytes so far.
     pub reader: Reader,
-    /// Why no format is named, once the list has ended.
+    /// The reason why no format is named, once the list has ended.
     pub unfit: Option<Unfit>,
 }
 
 impl FitList {
-    /// No byte so far.
+    /// Returns the list before the first byte.
     pub fn new<L: Ledger>(
         alloc: Global,
         question: &Question,
@@ -278,7 +294,7 @@ impl FitList {
         })
     }
 
-    /// The answer, by what is known of the lines.
+    /// Returns the answer from what is known of the lines.
     fn answer<L: Ledger>(&self, steps: &mut Steps<L>) -> Answer
         requires { (list : List (List ℕ)) × HasLines self.now.question.radix
             (asked_by self.now.question self.now.widths self.now.bound.items) list self.now.reader }

@@ -1,29 +1,30 @@
-//! The formats of some widths that every numeral so far fits within an error.
+//! The formats of the tried widths that every numeral so far fits within an error.
 //!
 //! A numeral that is within an error at a fraction length is within it at each longer one. So the lengths within the
-//! error are those from a least one on, and a format serves where more lengths of its width are left than that. Of a
-//! range the error is half an ulp, and so the least one is known before the first line. No numeral's error is greater
+//! error are those from a least one on, and a format serves if more lengths of its width are left than that. For a
+//! range the error is half an ulp, so the least length is known before the first line. No numeral's error is greater
 //! than half an ulp: from the length on at which that is within the error, a numeral only takes lengths away. So does a
-//! whole number at any.
+//! whole number of ulps at any length.
 //!
-//! Where a format of a width serves, so does one of each greater width. So of the next lesser width it is enough to
-//! keep the line that raised the least width last: until it a format of that width served, too.
+//! If a format of a width serves, so does one of each greater width. So for the next lesser width it is enough to keep
+//! the line that last raised the least width: before it a format of that width served, too.
 
 ghost use Rattle.std.specs.Prelude.{◌≡◌, ◌⊎◌, ◌≤◌, ◌<◌, ◌+◌, ◌^◌, ◌++◌, ◌∷◌, ◌↔◌, [], pos};
 ghost use Rattle.std.specs.Prelude.{IsTrue, IfOk, IfSome, true, false, List, ℕ, Bool, length};
 ghost use Rattle.fixed_bits.specs.Ranges.{IsWidth};
 ghost use Rattle.fixed_bits.specs.declared.mode.ReadMode.TheVariants.{NearestEven};
 ghost use Rattle.fixed_error.specs.ErrorSize.{HasErrorAbove, HasErrorWithin, IsReadWithin};
-ghost use Rattle.fixed_fit.specs.Inner.Lengths.{IsFlatRead};
+ghost use Rattle.fixed_fit.specs.Fitting.{Choice, choice};
+ghost use Rattle.fixed_fit.specs.Inner.Lengths.{IsFlatRead, IsWholeFraction};
 ghost use Rattle.fixed_numeral.specs.Numeral.{IsNumeral};
 ghost use Rattle.fixed_fit.specs.Inner.Serving.{AreAllLowered, AreFew, HasServing, HasSomeServing, IsBestOf, most_left};
 ghost use Rattle.fixed_fit.specs.Inner.Serving.{AreServed, AreSurelyLeft, Asked, HaveRoom, IsIn, bounded};
 ghost use Rattle.fixed_fit.specs.Within.{IsErrorWithin, IsHalfWithin, IsTried, most_width};
 
 use crate::half::first_length;
-use crate::lengths::{Lengths, all_lengths, lowered};
+use crate::lengths::{Lengths, all_lengths, frac_lengths, lowered};
 use crate::question::{Question, Widths};
-use crate::short::{FlatDecimal, is_within_room, least_room};
+use crate::short::{FlatDecimal, is_surely_whole, is_within_room, least_room};
 use fixed_bits::{Format, ReadMode};
 use fixed_error::is_error_above;
 use fixed_numeral::Radix;
@@ -36,29 +37,30 @@ use std::sync::ledger::Ledger;
 pub struct Serving {
     /// The greatest error that a numeral may have: the magnitude of a numeral.
     pub bound: Vec<u8>,
-    /// The lengths that are left, of each width that is tried.
+    /// The lengths left for each width that is tried.
     pub lengths: Vec<Lengths>,
-    /// Whether they are of formats with a sign.
+    /// Whether the lengths are those of signed formats.
     pub signed: bool,
-    /// How many parts of 10^-18 a number may have that surely fits the longest that is left of each width.
+    /// The most parts of 10^-18 of a number that surely fits the longest length left for each width.
     pub room: u128,
     /// The least length within the error.
     pub low: u32,
-    /// A length at which half an ulp is within the error, and so every numeral is; 65 where none up to 64 is.
+    /// A length at which half an ulp is within the error, and so every numeral is; 65 if there is none up to 64.
     pub half: u32,
-    /// The place of the line with which no format serves any more; 0 before it.
+    /// The number of the line with which no format serves any more; 0 before it.
     pub place: u64,
-    /// Whether the lines are the two ends of a range, of which every value is meant.
+    /// Whether the lines are the two ends of a range.
     pub is_range: bool,
     /// Whether a format serves.
     pub is_served: bool,
-    /// The least width at which one does.
+    /// The least width at which a format serves.
     pub width: u32,
-    /// The place of the line with which none of the next lesser width does any more; 0 where none did before a line.
+    /// The number of the line with which no format of the next lesser width serves any more; 0 if none did before a
+    /// line.
     pub raised: u64,
 }
 
-/// The greatest width that is tried.
+/// Returns the greatest width that is tried.
 pub fn most_width(widths: Widths, one: u32) -> u32
     requires { IsWidth one }
     ensures width { IsWidth result }
@@ -82,23 +84,7 @@ fn is_tried(widths: Widths, one: u32, width: u32) -> bool
     }
 }
 
-/// The least width that is tried and has a fraction length, where one has.
-fn least_width(widths: Widths, one: u32, low: u32) -> u32
-    ensures tried { low ≤ most_width widths one → IsTried widths one result }
-    ensures most { low ≤ most_width widths one → low ≤ result }
-    ensures least { (m : ℕ) → IsTried widths one m → low ≤ m → result ≤ m }
-{
-    match widths {
-        Widths::One => one,
-        Widths::Types if low <= 8 => 8,
-        Widths::Types if low <= 16 => 16,
-        Widths::Types if low <= 32 => 32,
-        Widths::Types => 64,
-        Widths::Any => low.max(1),
-    }
-}
-
-/// The place of the line that ruled out the width next below the least, which was `width` before a line at a place.
+/// Returns the number of the line that ruled out the width next below the least, which was `width` before line `place`.
 fn raised_by(width: u32, raised: u64, least: u32, place: u64) -> u64
     ensures same { least ≡ width → result ≡ raised }
     ensures moved { (least ≡ width → ⊥) → result ≡ place }
@@ -106,7 +92,7 @@ fn raised_by(width: u32, raised: u64, least: u32, place: u64) -> u64
     if least == width { raised } else { place }
 }
 
-/// What a line at a place leaves of all lengths, and how many are left at most.
+/// Keeps of all lengths those that line `place` leaves. Returns the greatest count of lengths left.
 fn lower_all<L: Ledger>(
     lengths: &mut Vec<Lengths>,
     line: &[u8],
@@ -127,7 +113,7 @@ fn lower_all<L: Ledger>(
     most
 }
 
-/// The least fraction length from `low` on at which a numeral is within the bound, where it is below `most`.
+/// Returns the least fraction length from `low` on at which a numeral is within the bound, if it is below `most`.
 fn raised<L: Ledger>(
     low: u32,
     most: u32,
@@ -153,7 +139,7 @@ fn raised<L: Ledger>(
     least
 }
 
-/// The least fraction length from `low` on that is within the bound with one more line, where it is below `most`.
+/// Returns the least fraction length from `low` on that is within the bound with one more line, if it is below `most`.
 fn next_low<L: Ledger>(
     is_range: bool,
     low: u32,
@@ -179,7 +165,7 @@ fn next_low<L: Ledger>(
     }
 }
 
-/// The one that is longer than `low`, or of two that are the one of the lesser width.
+/// Returns the lengths of more than `low`, or of the lesser width if both have more.
 fn better(low: u32, best: Lengths, left: Lengths) -> Lengths
     ensures one { (result ≡ best) ⊎ (result ≡ left) }
     ensures left { low < left.count → (low < result.count) × (result.kind.width ≤ left.kind.width) }
@@ -195,8 +181,32 @@ fn better(low: u32, best: Lengths, left: Lengths) -> Lengths
     }
 }
 
+/// Returns the lengths left for the least width at which a format serves.
+pub fn best_of(low: u32, lengths: &[Lengths]) -> Lengths
+    requires { low < most_left lengths.now }
+    ensures { IsBestOf low lengths.now result }
+{
+    let mut best = lengths[0];
+    for left in lengths {
+        best = better(low, best, *left);
+    }
+    best
+}
+
+/// Returns the least width at which a format serves, if one does.
+fn served_width(is_served: bool, low: u32, lengths: &[Lengths]) -> u32
+    requires { is_served ≡ true → low < most_left lengths.now }
+    ensures { is_served ≡ true → (best : Lengths) × IsBestOf low lengths.now best × (result ≡ best.kind.width) }
+{
+    if is_served {
+        best_of(low, lengths).kind.width()
+    } else {
+        0
+    }
+}
+
 impl Serving {
-    /// No line so far, of a sign rule and of the least fraction length that is within the bound.
+    /// Returns the formats before the first line, of a sign rule and with the least fraction length within the bound.
     ///
     /// # Errors
     ///
@@ -215,8 +225,8 @@ impl Serving {
         requires least { (f : ℕ) → f < low → ¬ IsErrorWithin question.now.is_range question.now.radix f bound.now [] }
         requires half { half < 65 → IsHalfWithin question.now.radix half bound.now }
         ensures bound { IfOk result (λ v. v.bound.items ≡ bound.now) }
-        ensures kept { IfOk result (HasServing question.now.is_range question.now.radix signed widths
-            question.now.kind.width []) }
+        ensures kept { IfOk result (HasServing question.now.is_range question.now.radix
+            (choice signed question.now.fractions) widths question.now.kind.width []) }
     {
         let one = question.kind.width();
         let mut text = Vec::new(alloc);
@@ -224,10 +234,13 @@ impl Serving {
         let mut lengths = Vec::new(alloc);
         for width in 1..65 {
             if is_tried(widths, one, width) {
-                lengths.push(all_lengths(Format::of(signed, width, 0)))?;
+                let kind = Format::of(signed, width, 0);
+                lengths.push(all_lengths(kind, question.fractions))?;
             }
         }
         let room = least_room(&lengths);
+        let is_served = low < frac_lengths(question.fractions, most_width(widths, one));
+        let width = served_width(is_served, low, &lengths);
         Ok(Serving {
             bound: text,
             lengths,
@@ -237,13 +250,13 @@ impl Serving {
             half,
             place: 0,
             is_range: question.is_range,
-            is_served: low <= most_width(widths, one),
-            width: least_width(widths, one, low),
+            is_served,
+            width,
             raised: 0,
         })
     }
 
-    /// No format, where none is asked for.
+    /// Returns no formats, for a list without a bound.
     pub fn none(alloc: Global) -> Serving {
         Serving {
             bound: Vec::new(alloc),
@@ -260,24 +273,26 @@ impl Serving {
         }
     }
 
-    /// Whether a short decimal is surely within the bound at the least length: half an ulp is, or it is a whole number.
+    /// Whether a short decimal is surely within the bound at the least length: half an ulp is, or it is a whole number
+    /// of ulps.
     #[inline(always)]
     fn is_surely_within(&self, found: FlatDecimal) -> bool
-        ensures { result ≡ true → (self.now.half ≤ self.now.low) ⊎ (found.decimal.fraction ≡ 0) }
+        requires { found.decimal.fraction < 10 ^ found.decimal.places }
+        ensures { result ≡ true → (self.now.half ≤ self.now.low) ⊎ IsWholeFraction found.decimal self.now.low }
     {
-        self.half <= self.low || found.decimal.fraction == 0
+        self.half <= self.low || is_surely_whole(found.decimal, self.low)
     }
 
-    /// Takes one more line, which is a numeral at a place, by rounding it, where a format serves.
+    /// Takes the numeral of line `place` by rounding it. A format serves.
     #[cold]
     fn rule_out<L: Ledger>(&mut self, line: &[u8], radix: Radix, place: u64, steps: &mut Steps<L>)
         requires numeral { IsNumeral radix line.now }
         requires known { HasSomeServing radix self.old }
         requires on { self.old.is_served ≡ true }
         ensures bound { self.new.bound ≡ self.old.bound }
-        ensures one_more { (range s : Bool) (widths : Widths) (one : ℕ) (lines : List (List ℕ))
-            → HasServing range radix s widths one lines self.old → place ≡ length lines + 1
-            → HasServing range radix s widths one (lines ++ line.now ∷ []) self.new }
+        ensures one_more { (range : Bool) (c : Choice) (widths : Widths) (one : ℕ) (lines : List (List ℕ))
+            → HasServing range radix c widths one lines self.old → place ≡ length lines + 1
+            → HasServing range radix c widths one (lines ++ line.now ∷ []) self.new }
     {
         let most = lower_all(&mut self.lengths, line, radix, place, steps);
         self.room = least_room(&self.lengths);
@@ -288,13 +303,12 @@ impl Serving {
             self.is_served = false;
             return;
         }
-        let width = self.best().kind.width();
+        let width = best_of(self.low, &self.lengths).kind.width();
         self.raised = raised_by(self.width, self.raised, width, place);
         self.width = width;
     }
 
-    /// Takes one more line, which is a numeral at a place, by its size where it was read as a short decimal
-    /// without an exponent.
+    /// Takes the numeral of line `place`, by its size if it was read as a short decimal without an exponent.
     #[inline(always)]
     pub fn add<L: Ledger>(
         &mut self,
@@ -308,9 +322,9 @@ impl Serving {
         requires known { HasSomeServing radix self.old }
         requires flat { IfSome flat (IsFlatRead radix line.now) }
         ensures bound { self.new.bound ≡ self.old.bound }
-        ensures one_more { (range s : Bool) (widths : Widths) (one : ℕ) (lines : List (List ℕ))
-            → HasServing range radix s widths one lines self.old → place ≡ length lines + 1
-            → HasServing range radix s widths one (lines ++ line.now ∷ []) self.new }
+        ensures one_more { (range : Bool) (c : Choice) (widths : Widths) (one : ℕ) (lines : List (List ℕ))
+            → HasServing range radix c widths one lines self.old → place ≡ length lines + 1
+            → HasServing range radix c widths one (lines ++ line.now ∷ []) self.new }
     {
         if !self.is_served {
             return;
@@ -322,33 +336,21 @@ impl Serving {
         }
         self.rule_out(line, radix, place, steps);
     }
-
-    /// Of the widths at which a format serves the least, with the lengths that are left of it.
-    pub fn best(&self) -> Lengths
-        requires { self.now.low < most_left self.now.lengths.items }
-        ensures { IsBestOf self.now.low self.now.lengths.items result }
-    {
-        let mut best = self.lengths[0];
-        for left in &self.lengths {
-            best = better(self.low, best, *left);
-        }
-        best
-    }
 }
 
-/// The formats of both sign rules that serve, where a bound is asked for.
+/// The formats of both sign rules that serve, if a bound is requested.
 #[derive(Drop)]
 pub struct Within {
-    /// Whether a bound is asked for.
+    /// Whether a bound is requested.
     pub is_bounded: bool,
-    /// Those without a sign.
+    /// The unsigned formats.
     pub plain: Serving,
-    /// Those with a sign.
+    /// The signed formats.
     pub signed: Serving,
 }
 
 impl Within {
-    /// No bound.
+    /// Returns no formats, for a list without a bound.
     pub fn none(alloc: Global) -> Within
         ensures { result.is_bounded ≡ false }
     {
@@ -359,7 +361,7 @@ impl Within {
         }
     }
 
-    /// No line so far.
+    /// Returns the formats before the first line.
     ///
     /// # Errors
     ///
@@ -374,7 +376,7 @@ impl Within {
         requires { IsNumeral question.now.radix bound.now }
         ensures is_bounded { IfOk result (λ w. w.is_bounded ≡ true) }
         ensures served { IfOk result (λ w. (n : ℕ) → AreServed question.now.radix
-            (bounded question.now.is_range n bound.now widths question.now.kind.width) [] w) }
+            (bounded question.now.is_range n question.now.fractions bound.now widths question.now.kind.width) [] w) }
     {
         let low = first_length(bound, question.radix, question.is_range, steps);
         let half = first_length(bound, question.radix, true, steps);
@@ -387,8 +389,7 @@ impl Within {
         })
     }
 
-    /// Takes one more line, which is a numeral at a place, by its size where it was read as a short decimal
-    /// without an exponent.
+    /// Takes the numeral of line `place`, by its size if it was read as a short decimal without an exponent.
     pub fn add<L: Ledger>(
         &mut self,
         line: &[u8],

@@ -1,20 +1,20 @@
-//! Short decimals that are decided by the numbers of their parts alone.
+//! Short decimals that are decided only by the numbers of their parts.
 //!
-//! Most lines fit each length that is left. That is seen by one comparison with the room that is left: the greatest
-//! number of parts of 10^-18 that surely fits.
+//! Most lines fit each length that is left. One comparison with the room that is left shows this: the greatest number
+//! of parts of 10^-18 that surely fits.
 
 ghost use Rattle.std.specs.Prelude.{◌≡◌, ◌≤◌, ◌<◌, ◌+◌, ◌*◌, ◌^◌, ◌↔◌, IfSome, IsTrue, true, ℕ};
-ghost use Rattle.fixed_fit.specs.Inner.Lengths.{IsFlatDecimal, IsRoomOf, magnitude_bits};
+ghost use Rattle.fixed_fit.specs.Inner.Lengths.{IsFlatDecimal, IsRoomOf, IsWholeFraction, magnitude_bits};
 ghost use Rattle.fixed_fit.specs.Inner.Serving.{AreFew, HaveRoom};
 
 use crate::lengths::Lengths;
 use fixed_bits::Format;
 use fixed_numeral::{ShortNumeral, power_of_ten};
 
-/// How many parts a whole number has.
+/// The number of parts in a whole number.
 const WHOLE: u64 = 1_000_000_000_000_000_000;
 
-/// A power of two that may be 2^64.
+/// Returns a power of two, which may be 2^64.
 fn wide_power_of_two(exponent: u32) -> u128
     requires { exponent ≤ 64 }
     ensures { result ≡ 2 ^ exponent }
@@ -22,7 +22,7 @@ fn wide_power_of_two(exponent: u32) -> u128
     1u128 << exponent
 }
 
-/// How many bits a magnitude has at most in a format.
+/// Returns the most bits of a magnitude in a format.
 fn magnitude_bits(kind: Format) -> u32
     ensures bits { result ≡ magnitude_bits kind.signed kind.width }
     ensures most { result ≤ 64 }
@@ -31,12 +31,14 @@ fn magnitude_bits(kind: Format) -> u32
     if kind.signed() { width - 1 } else { width }
 }
 
-/// How many parts of 10^-18 the fraction of a short decimal has: those of a whole number where it has more places.
+/// Counts the parts of 10^-18 in the fraction of a short decimal, or returns those of a whole number if it has more
+/// places.
 #[inline(always)]
 fn fraction_parts(found: ShortNumeral) -> u64
     requires { found.fraction < 10 ^ found.places }
     ensures most { result ≤ 10 ^ 18 }
     ensures parts { found.fraction * 10 ^ 18 ≤ result * 10 ^ found.places }
+    ensures same { found.places ≤ 18 → result * 10 ^ found.places ≡ found.fraction * 10 ^ 18 }
 {
     if found.places > 18 {
         return WHOLE;
@@ -44,16 +46,36 @@ fn fraction_parts(found: ShortNumeral) -> u64
     found.fraction as u64 * power_of_ten(18 - found.places)
 }
 
+/// 5^18.
+const FIVE_TO_18: u64 = 3_814_697_265_625;
+
+/// Returns the parts of 10^-18 in an ulp of 2^-`frac`, or of 2^-18 if `frac` is more than 18.
+fn ulp_parts(frac: u32) -> u64
+    ensures some { 0 < result }
+    ensures ulps { (count : ℕ) × (result * 2 ^ frac ≡ count * 10 ^ 18) }
+{
+    FIVE_TO_18 << (18 - frac.min(18))
+}
+
+/// Whether the fraction of a short decimal is surely a whole number of ulps of 2^-`frac`.
+#[inline(always)]
+pub fn is_surely_whole(found: ShortNumeral, frac: u32) -> bool
+    requires { found.fraction < 10 ^ found.places }
+    ensures { result ≡ true → IsWholeFraction found frac }
+{
+    found.fraction == 0 || found.places <= 18 && fraction_parts(found) % ulp_parts(frac) == 0
+}
+
 /// A short decimal without an exponent.
 #[derive(Clone, Copy)]
 pub struct FlatDecimal {
     /// The numbers of its parts.
     pub decimal: ShortNumeral,
-    /// How many parts of 10^-18 it has at most.
+    /// The most parts of 10^-18 that the decimal has.
     pub parts: u128,
 }
 
-/// A short decimal, where it has no exponent.
+/// Returns a short decimal, if it has no exponent.
 #[inline(always)]
 pub fn flat_decimal(found: ShortNumeral) -> Option<FlatDecimal>
     requires whole { found.whole < 10 ^ 16 }
@@ -71,8 +93,8 @@ pub fn flat_decimal(found: ShortNumeral) -> Option<FlatDecimal>
     })
 }
 
-/// Whether a number of this sign and this many parts of 10^-18 is surely in range, by the room that is left: the
-/// formats have a sign, or it has none.
+/// Whether a number of this sign and this many parts of 10^-18 is surely in range, by the room that is left. A negative
+/// number needs signed formats.
 #[inline(always)]
 pub fn is_within_room(room: u128, has_sign: bool, found: FlatDecimal) -> bool
     ensures sign { result ≡ true → found.decimal.negative ≡ true → has_sign ≡ true }
@@ -81,10 +103,10 @@ pub fn is_within_room(room: u128, has_sign: bool, found: FlatDecimal) -> bool
     (has_sign || !found.decimal.negative) && found.parts <= room
 }
 
-/// How many parts of 10^-18 a number may have that is an ulp or more below the end of the range with the longest length
-/// that is left; of any number where none is.
+/// Returns the most parts of 10^-18 of a number that is an ulp or more below the end of the range with the longest
+/// length left, or of any number if no length is left.
 fn room_left(left: Lengths) -> u128
-    requires { left.count ≤ left.kind.width + 1 }
+    requires { left.count ≤ 65 }
     ensures { IsRoomOf result left }
 {
     if left.count == 0 {
@@ -94,17 +116,17 @@ fn room_left(left: Lengths) -> u128
     (greatest * u128::from(WHOLE)) >> (left.count - 1)
 }
 
-/// The room that is left of two kinds.
+/// Returns the room that is left for two kinds.
 pub fn room_of_both(plain: &Lengths, signed: &Lengths) -> u128
-    requires plain { plain.now.count ≤ plain.now.kind.width + 1 }
-    requires signed { signed.now.count ≤ signed.now.kind.width + 1 }
+    requires plain { plain.now.count ≤ 65 }
+    requires signed { signed.now.count ≤ 65 }
     ensures plain { IsRoomOf result plain.now }
     ensures signed { IsRoomOf result signed.now }
 {
     room_left(*plain).min(room_left(*signed))
 }
 
-/// The least room that is left of some kinds.
+/// Returns the least room that is left for some kinds.
 pub fn least_room(lengths: &[Lengths]) -> u128
     requires { AreFew lengths.now }
     ensures { HaveRoom result lengths.now }

@@ -1,2 +1,2 @@
--- What no other crate can name
+-- Private to this crate:
 mod WordLemmas

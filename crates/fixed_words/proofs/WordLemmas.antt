@@ -1,4 +1,4 @@
--- Words that were converted, one byte after the other.
+-- Words converted one byte after the other.
 use Rattle.std.proofs.Common.{◌≡◌, ◌∙◌, ◌||◌, ◌<◌, ◌≤◌, ℕ, Bool, true, false, List, [], ◌∷◌, ◌++◌, length, nat_le, refl, sym, ap, subst, arith, append-nil, append_assoc, length-append, ⊎_elim}
 use Rattle.std.proofs.lemmas.Bool.{cases_lt}
 use Rattle.std.proofs.lemmas.Bool.Decides.{nat_tests}
@@ -25,7 +25,7 @@ use Rattle.fixed_words.specs.declared.rule.WordRule.{WordRule}
 use Rattle.fixed_words.specs.declared.splitter.WordBytes.{WordBytes}
 use Rattle.fixed_words.specs.declared.splitter.Words.{Words}
 
--- ---- one word more
+-- ---- one more word
 bytes_more : (es : List Ended) (e : Ended) → bytes_of (es ++ e ∷ []) ≡ bytes_of es ++ (e.word ++ e.separator ∷ [])
 bytes_more [] e = refl
 bytes_more (c ∷ cs) e = ap (λ l. c.word ++ (c.separator ∷ l)) (bytes_more cs e) ∙ sym (append_assoc c.word (c.separator ∷ bytes_of cs) (e.word ++ e.separator ∷ []))
@@ -54,20 +54,12 @@ unbroken_more : (others word : List ℕ) (b : ℕ) → HasNoSeparator others wor
 unbroken_more others [] b h k = (k, tt)
 unbroken_more others (c ∷ cs) b h k = (h.0, unbroken_more others cs b h.1 k)
 
--- ---- what is kept of a word
+-- ---- the kept bytes of a word
 within : (word kept : List ℕ) → length kept < longest_line → IsKept word kept → length word ≤ longest_line
 within word kept room k = ⊎_elim
     (λ (less : longest_line < length word). let full : longest_line ≤ length kept = k.full (omega (arith, less)) in absurd (omega (arith, full, room)))
     (λ (most : length word ≤ longest_line). most)
     (cases_lt longest_line (length word))
-
-pub kept_byte : (word kept : List ℕ) (b : ℕ) → length kept < longest_line → IsKept word kept → IsKept (word ++ b ∷ []) (kept ++ b ∷ [])
-kept_byte word kept b room k =
-    let same : kept ≡ word = k.whole (within word kept room k) in
-    record {
-      whole = λ few. ap (λ l. l ++ b ∷ []) same;
-      full = λ many. omega (arith, many, ap length same, length-append word (b ∷ []), length-append kept (b ∷ []));
-    }
 
 past : (word kept : List ℕ) → longest_line ≤ length kept → IsKept word kept → longest_line ≤ length word
 past word kept full k = ⊎_elim
@@ -75,16 +67,8 @@ past word kept full k = ⊎_elim
     (λ (more : longest_line ≤ length word). more)
     (cases_lt (length word) longest_line)
 
-pub past_byte : (word kept : List ℕ) (b : ℕ) → longest_line ≤ length kept → IsKept word kept → IsKept (word ++ b ∷ []) kept
-past_byte word kept b full k =
-    let many : longest_line ≤ length word = past word kept full k in
-    record {
-      whole = λ few. absurd (omega (arith, few, many, length-append word (b ∷ [])));
-      full = λ _. full;
-    }
-
--- ---- what is kept of a word is answered as the word
--- a word with a byte has a reply, and is answered by it
+-- ---- the kept bytes have the answer of the word
+-- a word that is not empty has a reply, and its answer follows from the reply
 pub record IsAnswered (s : WordRule) (word : List ℕ) (answer : AnswerText) : Type 0 where
   pub reply : AnswerText
   pub replied : IsReply s.rule word reply
@@ -104,7 +88,7 @@ long s word many = long_reply s.rule word (omega (arith, many, asking_longer s.r
 past_left : (n : ℕ) → longest_line ≤ n → nat_le n longest_left ≡ false
 past_left n many = grind (arith, nat_tests)
 
--- so long a word does not stay
+-- a word of `longest_line` bytes or more is never left as it is
 not_left : (leaves : Leaving) (word text : List ℕ) → longest_line ≤ length word → is_left leaves word text ≡ false
 not_left Nothing word text many = refl
 not_left NoNumerals word text many = rw (past_left (length word) many) refl
@@ -131,13 +115,13 @@ reply_kept s word kept reply k h = ⊎_elim
     (λ (most : length word ≤ longest_line). subst (λ w. IsWordReply s w reply) (k.whole most) h)
     (cases_lt longest_line (length word))
 
--- ---- a word
+-- ---- the end of a word
 shown_fault : (ending : Ending) (s : WordRule) (word reply : List ℕ) → (shown ending s word reply).fault ≡ is_refused ending
 shown_fault Converted s word reply = refl
 shown_fault Left s word reply = refl
 shown_fault Refused s word reply = refl
 
--- with a byte was answered
+-- a word that is not empty was answered
 pub ends_word : (s : WordRule) (word ends : List ℕ) (old new : Words) (reply : List ℕ) (fault : Bool) (ending : Ending) (Sent : List ℕ → Type 0) → 0 < length word → AppendsAnswer (IsReply s.rule) 192 word [] reply fault
     → answer_of s word (record { text = reply; fault = fault }) ≡ shown ending s word reply → new.has_fault ≡ (old.has_fault || is_refused ending) → Sent ((shown ending s word reply).text ++ ends) → EndsWord s word ends old new Sent
 ends_word s word ends old new reply fault ending Sent some a is faulty sent =
@@ -150,7 +134,7 @@ ends_word s word ends old new reply fault ending Sent some a is faulty sent =
       sent = sent;
     }
 
--- and one without a byte
+-- an empty word
 pub ends_none : (s : WordRule) (ends : List ℕ) (u : Words) (Sent : List ℕ → Type 0) → u.word ≡ [] → Sent ends → EndsWord s u.word ends u u Sent
 ends_none s ends u Sent none sent = record {
   reply = record { text = []; fault = false };
@@ -162,20 +146,8 @@ ends_none s ends u Sent none sent = record {
 pub ends_same : (s : WordRule) (word ends : List ℕ) (old mid new : Words) (Sent : List ℕ → Type 0) → new.has_fault ≡ mid.has_fault → EndsWord s word ends old mid Sent → EndsWord s word ends old new Sent
 ends_same s word ends old mid new Sent fault e = record { reply = e.reply; replied = e.replied; fault = fault ∙ e.fault; sent = e.sent }
 
--- ---- one byte more
-pub worded_none : (s : WordRule) (u : Words) → u.word ≡ [] → u.has_fault ≡ false → GoesOn s [] [] u
-worded_none s u word fault = record {
-  words = [];
-  are = tt;
-  rest = [];
-  unbroken = tt;
-  kept = record { whole = λ _. word; full = λ many. absurd (omega (arith, many)) };
-  cut = refl;
-  text_is = refl;
-  faulty = fault;
-}
-
--- that is part of a word
+-- ---- one more byte
+-- the byte is part of a word
 pub takes_part : (s : WordRule) (b : ℕ) (old new : Words) (Sent : List ℕ → Type 0) → is_separator s.separators.now b ≡ false → ((word : List ℕ) → IsKept word old.word → IsKept (word ++ b ∷ []) new.word) → new.has_fault ≡ old.has_fault
     → Sent [] → TakesByte s b old new Sent
 takes_part s b old new Sent inner kept fault sent = record {
@@ -193,7 +165,7 @@ takes_part s b old new Sent inner kept fault sent = record {
   sent = sent;
 }
 
--- that ends a word
+-- the byte ends a word
 pub takes_end : (s : WordRule) (b : ℕ) (old new : Words) (Sent : List ℕ → Type 0) → is_separator s.separators.now b ≡ true → new.word ≡ [] → EndsWord s old.word (b ∷ []) old new Sent → TakesByte s b old new Sent
 takes_end s b old new Sent ends word e = record {
   more = e.reply.text ++ b ∷ [];
@@ -232,7 +204,6 @@ takes_same s b old mid new Sent word fault t = record {
 }
 
 -- ---- the pieces of a run
--- nothing was put
 pub puts_none : (a : Seen) (held : List ℕ) → Puts a a held held []
 puts_none a held = record {
   gone = [];
@@ -251,7 +222,7 @@ module _ (first old new : WordBytes) (bytes made : List ℕ) (spent : ℕ) (a b 
   rule_of : new.rule ≡ first.rule
   rule_of = same ∙ makes.0
 
-  -- a byte
+  -- the words after one more byte
   byte_made : (byte : ℕ) (Sent : List ℕ → Type 0) (t : TakesByte old.rule.now byte old.words new.words Sent) → GoesOn first.rule.now (bytes ++ byte ∷ []) (made ++ t.more) new.words
   byte_made byte Sent t =
       let before : GoesOn old.rule.now bytes made old.words = subst (λ r. GoesOn r.now bytes made old.words) (sym makes.0) makes.1 in
@@ -274,7 +245,7 @@ module _ (first old new : WordBytes) (bytes made : List ℕ) (spent : ℕ) (a b 
     steps = omega arith;
   }
 
-  -- the end
+  -- the end of the input
   all_made : (Sent : List ℕ → Type 0) (e : EndsWord old.rule.now old.words.word [] old.words new.words Sent) → IsWorded first.rule.now (bytes ++ []) (record { text = made ++ (e.reply.text ++ []); fault = new.words.has_fault })
   all_made Sent e =
       let h : GoesOn first.rule.now bytes made old.words = makes.1 in

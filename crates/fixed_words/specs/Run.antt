@@ -1,5 +1,5 @@
--- What is made of words, and what a run over the words of an input leaves.
-use Rattle.std.specs.Prelude.{◌≡◌, ◌≤◌, ◌-◌, ◌^◌, ◌++◌, ℕ, Bool, true, List, length}
+-- The text made of words, and what a run over the words of an input leaves.
+use Rattle.std.specs.Prelude.{◌≡◌, ◌≤◌, ◌++◌, ℕ, Bool, true, List, length}
 use Rattle.std.specs.declared.convert.Infallible.{Infallible}
 use Rattle.line_engine.specs.Program.{Outside}
 use Rattle.line_engine.specs.declared.status.Status.{Status}
@@ -16,15 +16,11 @@ use Rattle.fixed_words.specs.declared.rule.WordRule.{WordRule}
 use Rattle.fixed_words.specs.declared.splitter.WordBytes.{WordBytes}
 use Rattle.fixed_words.specs.declared.splitter.Words.{Words}
 
--- how many bytes an input has at most
-abbrev pub most_bytes : ℕ
-most_bytes = 2 ^ 62 - 1
-
 -- each byte is a piece
 abbrev pub is_piece : ℕ → Bool
 is_piece byte = true
 
--- what is kept of a word: all of it, or as much as a line may have
+-- the kept part of a word: all of it, or at least as many bytes as a line may have
 pub record IsKept (word kept : List ℕ) : Type 0 where
   pub whole : length word ≤ longest_line → kept ≡ word
   pub full : longest_line ≤ length word → longest_line ≤ length kept
@@ -40,7 +36,7 @@ pub record GoesOn (s : WordRule) (bytes text : List ℕ) (u : Words) : Type 0 wh
   pub text_is : text ≡ written_of words
   pub faulty : u.has_fault ≡ any_refused words
 
--- what is made of words, by how the machine stands with their text
+-- what a machine makes of words, by how it stands with their text
 abbrev pub MakesWords : WordRule → List ℕ → List ℕ → How Infallible → Words → Type 0
 MakesWords s bytes text going u = GoesOn s bytes text u
 MakesWords s bytes text (finished fault) u = IsWorded s bytes (record { text = text; fault = fault })
@@ -50,8 +46,8 @@ MakesWords s bytes text (stopped late why) u = ⊥
 abbrev pub MakesBy : WordBytes → List ℕ → List ℕ → ℕ → How Infallible → WordBytes → Type 0
 MakesBy first bytes text spent how last = (last.rule ≡ first.rule) × MakesWords first.rule.now bytes text how last.words
 
--- what a run that ended so has taken, made and written
-pub record HasWordsRun (s : WordRule) (before after : Outside) (status : Status) : Type 0 where
+-- what a run within a limit has taken, made and written, with this status
+pub record HasWordsRun (limit : ℕ) (s : WordRule) (before after : Outside) (status : Status) : Type 0 where
   pub first : WordBytes
   pub last : Cut WordBytes
   pub a : Moment
@@ -61,4 +57,4 @@ pub record HasWordsRun (s : WordRule) (before after : Outside) (status : Status)
   pub is_before : outside_at a ≡ before
   pub is_after : outside_at b ≡ after
   pub ends : IsStatus end status
-  pub run : HasRun (λ bytes text spent how it. MakesBy first bytes text spent how it.0) last most_bytes a b end
+  pub run : HasRun (λ bytes text spent how it. MakesBy first bytes text spent how it.0) last limit a b end

@@ -1,4 +1,4 @@
--- The words of a text, and what they are converted to where they stand.
+-- The words of a text, each converted in its place.
 use Rattle.std.specs.Prelude.{◌≡◌, ◌&&◌, ◌||◌, ◌++◌, ◌==◌, ℕ, Bool, true, false, List, [], ◌∷◌, codes, not}
 use Rattle.std.specs.Prelude.{if◌then◌else◌, length, nat_le}
 use Rattle.std.specs.Char.{is_ascii_whitespace}
@@ -12,7 +12,7 @@ use Rattle.fixed_words.specs.declared.rule.Leaving.{Leaving}
 use Rattle.fixed_words.specs.declared.rule.Leaving.TheVariants.{Everything, NoNumerals, Nothing}
 use Rattle.fixed_words.specs.declared.rule.WordRule.{WordRule}
 
--- a byte that separates words: ASCII's white space, or one of these
+-- whether a byte separates words: ASCII white space, or one of these
 abbrev pub is_separator : List ℕ → ℕ → Bool
 is_separator others byte = is_ascii_whitespace byte || list_any (λ b. b == byte) others
 
@@ -21,7 +21,7 @@ abbrev pub HasNoSeparator : List ℕ → List ℕ → Type 0
 HasNoSeparator others [] = Unit {0}
 HasNoSeparator others (b ∷ bytes) = (is_separator others b ≡ false) × HasNoSeparator others bytes
 
--- a refusal says that a number is out of range
+-- whether a refusal says that a number is out of range
 abbrev pub is_overflow : List ℕ → Bool
 is_overflow text = bytes_eq text (codes "error: overflow")
 
@@ -29,38 +29,38 @@ is_overflow text = bytes_eq text (codes "error: overflow")
 abbrev pub longest_left : ℕ
 longest_left = 524288
 
--- whether a word that is refused with this text stays as it was: never, if it is no numeral, or always; but not a word
--- that is longer than the longest that stays
+-- whether a word refused with this text stays as it was: never, if it is not a numeral, or always; a word longer than
+-- the longest that may stay does not
 abbrev pub is_left : Leaving → List ℕ → List ℕ → Bool
 is_left Nothing word text = false
 is_left NoNumerals word text = nat_le (length word) longest_left && not (is_overflow text)
 is_left Everything word text = nat_le (length word) longest_left
 
--- what is written for a word with this reply, and whether it is refused: the reply, or for a refusal the word itself or
--- a token
+-- the text written for a word with this reply, and whether the word is refused: the reply or, for a refusal, the word
+-- itself or a token
 abbrev pub answer_of : WordRule → List ℕ → AnswerText → AnswerText
 answer_of rule word reply = if not reply.fault then reply else (if is_left rule.leaves word reply.text
     then record { text = word; fault = false } else record { text = rule.token; fault = true })
 
--- the same by how the word ended
+-- the same, by how the word ended
 abbrev pub shown : Ending → WordRule → List ℕ → List ℕ → AnswerText
 shown Converted rule word reply = record { text = reply; fault = false }
 shown Left rule word reply = record { text = word; fault = false }
 shown Refused rule word reply = record { text = rule.token; fault = true }
 
--- whether a word that ended so is refused
+-- whether a word with this ending is refused
 abbrev pub is_refused : Ending → Bool
 is_refused Converted = false
 is_refused Left = false
 is_refused Refused = true
 
--- the answer to a word: an empty one where the word has no byte
+-- the answer to a word; an empty word has an empty answer
 abbrev pub IsWordReply : WordRule → List ℕ → AnswerText → Type 0
 IsWordReply s [] answer = answer ≡ record { text = []; fault = false }
 IsWordReply s (b ∷ bytes) answer = (reply : AnswerText) × IsReply s.rule (b ∷ bytes) reply
     × (answer ≡ answer_of s (b ∷ bytes) reply)
 
--- a word, the separator behind it, and the reply to it
+-- a word, the separator after it, and the reply to it
 pub record Ended : Type 0 where
   pub word : List ℕ
   pub separator : ℕ
@@ -75,12 +75,12 @@ abbrev pub AreEnded : WordRule → List Ended → Type 0
 AreEnded s [] = Unit {0}
 AreEnded s (e ∷ es) = IsEnded s e × AreEnded s es
 
--- the bytes of words with the separators behind them
+-- the bytes of the words, each with the separator after it
 abbrev pub bytes_of : List Ended → List ℕ
 bytes_of [] = []
 bytes_of (e ∷ es) = e.word ++ (e.separator ∷ bytes_of es)
 
--- what is written for them: each word gives way to its reply, each separator stays
+-- the output for the words: each word is replaced by its reply, and each separator stays
 abbrev pub written_of : List Ended → List ℕ
 written_of [] = []
 written_of (e ∷ es) = e.reply.text ++ (e.separator ∷ written_of es)
@@ -90,8 +90,8 @@ abbrev pub any_refused : List Ended → Bool
 any_refused [] = false
 any_refused (e ∷ es) = e.reply.fault || any_refused es
 
--- the text that is made of another, and whether a word of that is refused: its words up to the last separator, and a
--- last word behind it
+-- the converted text, and whether a word of the original is refused: the words up to the last separator, and a last
+-- word after it
 pub record IsWorded (s : WordRule) (bytes : List ℕ) (answer : AnswerText) : Type 0 where
   pub words : List Ended
   pub are : AreEnded s words

@@ -2,7 +2,7 @@
 
 ghost use Rattle.fixed_words.specs.Laws.{WordedIsTheOne};
 
-/// Of a text one text is made, and a word of it is refused or none is.
+/// A text determines its converted text and whether a word is refused.
 pub fn worded_is_the_one()
     ensures { WordedIsTheOne }
 {}

@@ -1,9 +1,9 @@
-//! Words of a text, each a numeral or a word of bits, that are converted where they stand: every other byte stays.
+//! Converts the words of a text in place, each a numeral or a register word: every other byte stays.
 //!
-//! `rule` says what separates words and what becomes of refused ones, `splitter` is the machine that takes the bytes of
+//! `rule` says what separates words and what happens to refused ones, `splitter` is the machine that takes the bytes of
 //! a text and answers the words that end in them, and `convert` runs it over a source and a sink.
 //!
-//! The text is not cut into lines, so no byte is added, and a line has no greatest length.
+//! The text is not cut into lines, so no byte is added, and lines may have any length.
 #![tactic(auto)]
 
 pub mod convert;

@@ -1,8 +1,8 @@
-//! How the words of a text are converted: what separates them, and what becomes of those that are refused.
+//! How the words of a text are converted: what separates them, and what happens to refused ones.
 //!
-//! A refused word becomes one token, so the columns after it stay where they are. A word that stays has at most 524,288
-//! bytes; it is kept in memory that is taken before the first read. A byte of numerals separates nothing, since `0.5`
-//! would be two words.
+//! A refused word becomes one token, so the columns after it stay in place. A word that stays has at most 524,288
+//! bytes; it is kept in memory that is allocated before the first read. A byte of numerals cannot be a separator, since
+//! `0.5` would be two words.
 
 ghost use Rattle.std.specs.Prelude.{◌≡◌, ◌≤◌, ◌+◌, ◌++◌, OnErr, OnOk, length};
 ghost use Rattle.fixed_words.specs.Words.{answer_of, is_left, is_overflow, is_separator, longest_left, shown};
@@ -26,9 +26,9 @@ pub const MAX_LEFT: usize = 524_288;
 pub enum Leaving {
     /// None.
     Nothing,
-    /// Those that are no numerals.
+    /// Words that are not numerals.
     NoNumerals,
-    /// All, also numerals out of range.
+    /// All, including numerals out of range.
     Everything,
 }
 
@@ -37,9 +37,9 @@ pub enum Leaving {
 pub struct WordRule<'a> {
     /// How a word is converted.
     pub rule: ConvertRule,
-    /// The bytes that separate words, beside ASCII's white space.
+    /// The bytes that separate words, in addition to ASCII white space.
     pub separators: &'a [u8],
-    /// What is written for a refused word.
+    /// The text that replaces a refused word.
     pub token: TextBuffer<MAX_TOKEN>,
     /// Which refused words stay.
     pub leaves: Leaving,
@@ -81,7 +81,7 @@ fn is_left(leaves: Leaving, word: &[u8], reply: &[u8]) -> bool
     }
 }
 
-/// How a word with this reply ends.
+/// Returns how a word with this reply ends.
 pub(crate) fn ending_of(rule: &WordRule<'_>, word: &[u8], reply: &[u8], is_fault: bool) -> Ending
     ensures shown { answer_of rule.now word.now (record { text = reply.now; fault = is_fault })
         ≡ shown result rule.now word.now reply.now }
@@ -96,7 +96,7 @@ pub(crate) fn ending_of(rule: &WordRule<'_>, word: &[u8], reply: &[u8], is_fault
     }
 }
 
-/// Puts a text and what ends its word.
+/// Puts a text and the byte that ends its word, if any.
 fn put_ended<I: Streams>(text: &[u8], end: &[u8], out: &mut Gathered<I>) -> Result<(), Failed>
     requires { length text.now + length end.now ≤ 193 }
     ensures ok { OnOk result (Puts (I.seen out.old.io) (I.seen out.new.io) out.old.text out.new.text
@@ -109,7 +109,7 @@ fn put_ended<I: Streams>(text: &[u8], end: &[u8], out: &mut Gathered<I>) -> Resu
     out.put(ended.as_bytes())
 }
 
-/// Puts what is written for a word that ends so, with this reply, and what ends it: a separator or nothing.
+/// Puts the text for a word with this ending and reply, and the separator that ends it, if any.
 pub(crate) fn put_shown<I: Streams>(
     rule: &WordRule<'_>,
     ending: Ending,

@@ -1,7 +1,9 @@
-//! Words that are converted as the bytes of their text come: the word that has not ended, and the pieces of a run.
+//! Converts words as the bytes of their text arrive: the word that has not ended, and the pieces of a run.
 
 ghost use Rattle.std.specs.Prelude.{◌≡◌, ◌≤◌, ◌<◌, ◌++◌, ◌∷◌, ◌||◌, [], List, MatchOption, ℕ, OnOk, OnErr};
-ghost use Rattle.std.specs.Prelude.{get_or, length, take, true};
+ghost use Rattle.std.specs.Prelude.{◌==◌, None, get_or, if◌then◌else◌, length, take, true};
+ghost use Rattle.line_engine.specs.Memory.{next_count};
+ghost use Rattle.fixed_words.specs.Noted.{IsAtSamePlace, IsFirstAfter, IsNotedAlike, refused_after};
 ghost use Rattle.fixed_words.specs.Words.{is_refused};
 ghost use Rattle.fixed_words.specs.Run.{GoesOn, IsKept, is_piece};
 ghost use Rattle.fixed_words.specs.Inner.Progress.{EndsWord, TakesByte};
@@ -20,16 +22,16 @@ use std::convert::Infallible;
 use std::sync::ledger::Ledger;
 use text_buffer::TextBuffer;
 
-/// A word that is refused.
+/// A refused word.
 #[derive(Drop)]
 pub struct WordRefusal {
-    /// Its line, and the first bytes of the word and of its cause.
+    /// Its line, and the first bytes of the word and of the cause.
     pub line: RefusedLine,
-    /// The place of its first byte in its line, from 1.
+    /// The position of its first byte in its line, from 1.
     pub byte: u64,
 }
 
-/// Words that are converted.
+/// The conversion of words.
 #[derive(Drop)]
 pub struct Words {
     /// The first bytes of the word that has not ended.
@@ -38,21 +40,21 @@ pub struct Words {
     pub has_fault: bool,
     /// The line of the next byte, from 1.
     pub line: u64,
-    /// The place of the next byte in its line, from 1.
+    /// The position of the next byte in its line, from 1.
     pub byte: u64,
-    /// The place in its line of the first byte of the word that has not ended, or of the next one.
+    /// The position in its line of the first byte of the word that has not ended, or of the next word.
     pub start: u64,
     /// How many words were refused.
     pub refused: u64,
-    /// The first of those.
+    /// The first refused word.
     pub first: Option<WordRefusal>,
-    /// What is kept of the greatest error, where it is kept how the words came through.
+    /// The report of the greatest error, if outcomes are kept.
     pub errors: Option<ErrorReport>,
-    /// How they did.
+    /// The outcomes of the words.
     pub tally: Tally,
 }
 
-/// Whether a word that ended so is refused.
+/// Whether a word with this ending is refused.
 fn is_refused(ending: Ending) -> bool
     ensures { result ≡ is_refused ending }
 {
@@ -63,7 +65,7 @@ fn is_refused(ending: Ending) -> bool
 }
 
 impl Words {
-    /// No byte, with room for a word.
+    /// The state before the first byte, with room for a word.
     pub fn new(word: RecordBuffer, errors: Option<ErrorReport>) -> Words
         requires { word ≡ [] }
         ensures { (s : WordRule) → GoesOn s [] [] result }
@@ -81,10 +83,14 @@ impl Words {
         }
     }
 
-    /// Counts a word that ended so, with this reply.
+    /// Counts a word with this ending and reply.
     fn count(&mut self, ending: Ending, reply: &[u8])
         ensures word { self.new.word ≡ self.old.word }
         ensures fault { self.new.has_fault ≡ (self.old.has_fault || is_refused ending) }
+        ensures refused { self.new.refused ≡ refused_after ending self.old.refused }
+        ensures first { IsFirstAfter ending self.old self.new.first }
+        ensures place { IsAtSamePlace self.old self.new }
+        ensures noted { IsNotedAlike self.old self.new }
     {
         if is_refused(ending) {
             self.has_fault = true;
@@ -99,7 +105,7 @@ impl Words {
         }
     }
 
-    /// Notes how a word came through that ended so, with this reply: not at all if it is no numeral and stays.
+    /// Records the outcome of a word with this ending and reply, unless it stays and is not a numeral.
     fn note<L: Ledger>(
         &mut self,
         rule: &ConvertRule,
@@ -109,6 +115,10 @@ impl Words {
     )
         ensures word { self.new.word ≡ self.old.word }
         ensures fault { self.new.has_fault ≡ self.old.has_fault }
+        ensures refused { self.new.refused ≡ self.old.refused }
+        ensures first { self.new.first ≡ self.old.first }
+        ensures place { IsAtSamePlace self.old self.new }
+        ensures unasked { self.old.errors ≡ None → IsNotedAlike self.old self.new }
     {
         if let Some(errors) = &mut self.errors {
             let word = self.word.as_slice();
@@ -125,7 +135,7 @@ impl Words {
         }
     }
 
-    /// Goes on with a byte of a word. Those past the greatest length of a line are passed over.
+    /// Appends a byte of a word. Bytes past the greatest length of a record are dropped.
     fn keep(&mut self, byte: u8)
         ensures word { (rest : List ℕ) → IsKept rest self.old.word → IsKept (rest ++ byte ∷ []) self.new.word }
         ensures fault { self.new.has_fault ≡ self.old.has_fault }
@@ -135,7 +145,7 @@ impl Words {
         }
     }
 
-    /// Answers the word that ends, which has a byte, and puts that and what ends the word: a separator or nothing.
+    /// Answers the word that ends, which is not empty, and puts the answer and the separator that ends it, if any.
     fn answer_word<I: Streams, L: Ledger>(
         &mut self,
         rule: &WordRule<'_>,
@@ -160,7 +170,7 @@ impl Words {
         put_shown(rule, ending, &mut self.word, reply.as_bytes(), end, out)
     }
 
-    /// Answers the word that ends, if it has a byte, puts what ends it, and begins a new one.
+    /// Answers the word that ends, unless it is empty, puts the separator that ends it, if any, and begins a new word.
     fn end_word<I: Streams, L: Ledger>(
         &mut self,
         rule: &WordRule<'_>,
@@ -203,10 +213,16 @@ impl Words {
         Ok(())
     }
 
-    /// Goes on to the place behind a byte.
+    /// Moves to the position after a byte.
     fn pass(&mut self, byte: u8)
         ensures word { self.new.word ≡ self.old.word }
         ensures fault { self.new.has_fault ≡ self.old.has_fault }
+        ensures line { self.new.line ≡ (if byte == 10 then next_count self.old.line else self.old.line) }
+        ensures byte { self.new.byte ≡ (if byte == 10 then 1 else next_count self.old.byte) }
+        ensures start { self.new.start ≡ (if length self.old.word == 0 then self.new.byte else self.old.start) }
+        ensures refused { self.new.refused ≡ self.old.refused }
+        ensures first { self.new.first ≡ self.old.first }
+        ensures noted { IsNotedAlike self.old self.new }
     {
         if byte == b'\n' {
             self.line = self.line.saturating_add(1);
@@ -219,7 +235,7 @@ impl Words {
         }
     }
 
-    /// Takes the next byte, answers the word that ends with it, and goes on to the next place.
+    /// Takes the next byte, answers the word that ends with it, and moves to the next position.
     fn push<I: Streams, L: Ledger>(
         &mut self,
         rule: &WordRule<'_>,
@@ -238,7 +254,7 @@ impl Words {
     }
 }
 
-/// What converts the words of an input by a rule. It takes the input one byte after the other.
+/// The machine that converts the words of an input by a rule. It takes the input byte by byte.
 #[derive(Drop)]
 pub struct WordBytes<'a> {
     /// The rule.

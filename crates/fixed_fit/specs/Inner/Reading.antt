@@ -12,25 +12,26 @@ use Rattle.fixed_fit.specs.declared.progress.Progress.{Progress}
 use Rattle.fixed_fit.specs.declared.reader.Reader.{Reader}
 use Rattle.fixed_fit.specs.declared.serving.Within.{Within}
 
--- this is kept of these lines
+-- `p`, `e` and `w` are what is kept of these lines
 pub record AreKept (r : Radix) (a : Asked) (list : List (List ℕ)) (p : Progress) (e : GreatestErrors)
     (w : Within) : Type 0 where
   pub width : IsWidth a.width
   pub progress : HasProgress a.width list p
   pub radix : p.radix ≡ r
+  pub fractions : p.fractions ≡ a.fractions
   pub errors : p.fault ≡ None → HasGreatestErrors r (max p.plain.count p.signed.count) (entries_from 1 list) e
   pub is_bounded : w.is_bounded ≡ a.is_bounded
   pub within : a.is_bounded ≡ true → p.fault ≡ None → AreServed r a list w
 
--- what is kept of these lines by a reader
+-- the reader has what is kept of these lines
 abbrev pub HasLines : Radix → Asked → List (List ℕ) → Reader → Type 0
 HasLines r a list reader = AreKept r a list reader.progress reader.errors reader.within
 
--- what is kept of these bytes
+-- the reader has what is kept of these bytes
 pub record HasRead (r : Radix) (a : Asked) (whole : List ℕ) (reader : Reader) : Type 0 where
   pub line : reader.line.items ≡ unended whole
   pub lines : HasLines r a (ended_lines whole) reader
 
--- this is kept of some bytes
+-- the reader has what is kept of some bytes
 abbrev pub HasSomeRead : Reader → Type 0
 HasSomeRead reader = (r : Radix) × (a : Asked) × (whole : List ℕ) × HasRead r a whole reader

@@ -1,5 +1,5 @@
--- One answer is made of a list.
-use Rattle.std.proofs.Common.{◌≡◌, ◌∙◌, ℕ, Bool, List, sym, ap}
+-- At most one answer is made of a list.
+use Rattle.std.proofs.Common.{◌≡◌, ◌∙◌, ℕ, List, sym, ap}
 use Rattle.std.specs.declared.convert.Infallible.{Infallible}
 use Rattle.line_engine.specs.AnswerText.{AnswerText}
 use Rattle.run_engine.specs.Machines.{Agree, How, going, finished, lacking, stopped}

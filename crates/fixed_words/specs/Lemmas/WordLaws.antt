@@ -1,4 +1,4 @@
--- A text is cut into words in one way, and one text is made of it.
+-- A text is cut into words in one way, and is converted to one text.
 use Rattle.std.proofs.Common.{◌≡◌, ◌∙◌, ◌||◌, ℕ, Bool, true, false, List, [], ◌∷◌, ◌++◌, refl, sym, ap, subst}
 use Rattle.std.proofs.Common.{append_assoc, true≢false}
 use Rattle.std.specs.declared.convert.Infallible.{Infallible}
@@ -28,7 +28,7 @@ none_within : (others word : List ℕ) (b : ℕ) (rest : List ℕ) → HasNoSepa
 none_within others [] b rest h one = broken others b b refl one h.0
 none_within others (c ∷ cs) b rest h one = none_within others cs b rest h.1 one
 
--- the first word of a text, its separator, and what follows
+-- two cuts of a text agree: in its first word, the separator after it, and the rest
 pub record AreSame (w v : List ℕ) (a b : ℕ) (t u : List ℕ) : Type 0 where
   pub word : w ≡ v
   pub separator : a ≡ b

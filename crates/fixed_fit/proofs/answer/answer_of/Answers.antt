@@ -15,7 +15,7 @@ pub returns-in-Some : goal.returns-in-Some
 returns-in-Some g c = λ input h. inl (fault_is_answer c.args.question.now input c.args.reader.now.progress c.in-Some.fault (said (Err c.no_numeral.result)) h.progress h.radix c.in-Some.is (grind (arith, common_steps, c.no_numeral.ensures, c.in-Some.is)) refl)
 
 pub returns-then-is_either : goal.returns-then-is_either
-returns-then-is_either g c = λ input h. inr (signed_answer c.args.question.now (lines input) c.args.reader.now.progress (said c.lengths_answer.result) h.progress h.radix c.in-None.is (grind (arith, common_steps, c.signed.ensures, c.is_either.ensures, c.if-is_either.true)) (c.lengths_answer.ensures _ (lines input) (h.errors c.in-None.is)))
+returns-then-is_either g c = λ input h. inr (signed_answer c.args.question.now (lines input) c.args.reader.now.progress (said c.lengths_answer.result) h.progress h.radix h.fractions c.in-None.is (grind (arith, common_steps, c.signed.ensures, c.is_either.ensures, c.if-is_either.true)) (c.lengths_answer.ensures _ (lines input) (h.errors c.in-None.is)))
 
 pub returns-else-is_either : goal.returns-else-is_either
-returns-else-is_either g c = λ input h. inr (plain_answer c.args.question.now (lines input) c.args.reader.now.progress (said c.lengths_answer-else-is_either.result) h.progress h.radix c.in-None.is (grind (arith, common_steps, c.signed.ensures, c.is_either.ensures, c.if-is_either.false)) (c.lengths_answer-else-is_either.ensures _ (lines input) (h.errors c.in-None.is)))
+returns-else-is_either g c = λ input h. inr (plain_answer c.args.question.now (lines input) c.args.reader.now.progress (said c.lengths_answer-else-is_either.result) h.progress h.radix h.fractions c.in-None.is (grind (arith, common_steps, c.signed.ensures, c.is_either.ensures, c.if-is_either.false)) (c.lengths_answer-else-is_either.ensures _ (lines input) (h.errors c.in-None.is)))

@@ -8,7 +8,7 @@ pub returns-clause-some : goal.returns-clause-some
 returns-clause-some g c = λ count list h.
     let w = c.push_error.ensures.word count list h in
     let name : List ℕ = name_of c.args.kind.signed c.args.kind.width c.args.frac in
-    let reason : List ℕ = reason_of c.args.question.now.is_reason_asked c.args.kind.signed c.args.kind.width c.args.frac c.args.place in
+    let reason : List ℕ = reason_of c.args.question.now.fractions c.args.question.now.is_reason_asked c.args.kind.signed c.args.kind.width c.args.frac c.args.place in
     record {
       error = w.text;
       is_error = w.is_text;

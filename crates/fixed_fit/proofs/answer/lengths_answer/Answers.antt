@@ -8,7 +8,7 @@ found_answer-requires g c =
     let known = c.requires.known in
     let some = c.if-count-eq0.false in
     record {
-      within = omega (arith, some, known.3.most);
+      within = omega (arith, some, known.3.few);
       kept = omega (arith, some, known.2.count_is, known.4);
       known = (known.0, known.1, known.2, known.3.fit (c.args.lengths.now.count - 1) (omega (arith, some)));
     }

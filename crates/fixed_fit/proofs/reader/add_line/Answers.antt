@@ -6,6 +6,7 @@ use Rattle.fixed_error.specs.Short.{IsShortRead}
 use Rattle.fixed_numeral.specs.Numeral.{IsNumeral}
 use Rattle.fixed_numeral.specs.declared.radix.Radix.{Radix}
 use Rattle.fixed_fit.specs.ErrorWord.{entries_from}
+use Rattle.fixed_fit.specs.Fitting.{choice}
 use Rattle.fixed_fit.specs.Inner.Progress.{HasProgress}
 use Rattle.fixed_fit.specs.Inner.Serving.{AreServed, HasServing}
 use Rattle.fixed_fit.proofs.LineLemmas.{ended, errors_longer, line_numeral, line_within, some_errors, some_served}
@@ -32,14 +33,14 @@ add_read-requires g c =
           let here : IsReadWithin NearestEven r f line = line_within r n.width f done line new h.width known radix none few in
           subst (λ (x : Radix). IsReadWithin NearestEven x f line) (sym errors.radix) here;
       numeral = subst (λ (x : Radix). IsNumeral x line) (sym errors.radix) (line_numeral r n.width done line new known radix none);
-      short = subst (λ (x : Radix). IfSome c.read_short-short.result (IsShortRead x line)) (h.radix ∙ sym errors.radix) c.read_short-short.ensures;
+      short = subst (λ (x : Radix). IfSome c.read_short-short.result (IsShortRead x line)) (h.radix ∙ sym errors.radix) c.read_short-short.ensures.read;
     }
 
 pub returns-then-is_some : goal.returns-then-is_some
 returns-then-is_some g c = λ r n done h.
     let old = c.args.progress.now in
     let some : c.push.new.self.fault ≡ None → ⊥ = grind (arith, common_steps, c.is_some.ensures, c.if-is_some.true) in
-    ended r n done c.args.line.now old c.push.new.self c.args.errors.now c.args.errors.now c.args.within.now c.args.within.now c.push.ensures.one_more c.push.ensures.radix (λ none. absurd (some none)) refl (λ is none. absurd (some none)) h
+    ended r n done c.args.line.now old c.push.new.self c.args.errors.now c.args.errors.now c.args.within.now c.args.within.now c.push.ensures.one_more c.push.ensures.radix c.push.ensures.fractions (λ none. absurd (some none)) refl (λ is none. absurd (some none)) h
 
 pub returns-in-Ok : goal.returns-in-Ok
 returns-in-Ok g c = λ r n done h.
@@ -58,7 +59,7 @@ returns-in-Ok g c = λ r n done h.
     let before : AreServed new.radix n done c.args.within.now = subst (λ (x : Radix). AreServed x n done c.args.within.now) (sym radix) (h.within is (c.push.ensures.sound none)) in
     let after = c.add.ensures.one_more n done (h.is_bounded ∙ is) before (c.push.ensures.lines ∙ ap (λ (k : ℕ). k + 1) h.progress.count) in
     subst (λ (x : Radix). AreServed x n (done ++ line ∷ []) c.add.new.self) radix after in
-    ended r n done line old new c.args.errors.now c.add_read.new.self c.args.within.now c.add.new.self c.push.ensures.one_more c.push.ensures.radix errors c.add.ensures.is_bounded within h
+    ended r n done line old new c.args.errors.now c.add_read.new.self c.args.within.now c.add.new.self c.push.ensures.one_more c.push.ensures.radix c.push.ensures.fractions errors c.add.ensures.is_bounded within h
 
 pub add-requires-clause-numeral : goal.add-requires-clause-numeral
 add-requires-clause-numeral g c =
@@ -80,7 +81,7 @@ add-requires-clause-plain g c = λ is.
     let h = c.requires.3 in
     let none : new.fault ≡ None = is_none new.fault (grind (arith, common_steps, c.is_some.ensures, c.if-is_some.false)) in
     let served = some_served r n done c.args.progress.now c.args.errors.now c.args.within.now is (c.push.ensures.sound none) h in
-    (n.is_range, false, n.widths, n.one, done, subst (λ (x : Radix). HasServing n.is_range x false n.widths n.one done c.args.within.now.plain) (sym (c.push.ensures.radix ∙ h.radix)) served.plain)
+    (n.is_range, choice false n.fractions, n.widths, n.one, done, subst (λ (x : Radix). HasServing n.is_range x (choice false n.fractions) n.widths n.one done c.args.within.now.plain) (sym (c.push.ensures.radix ∙ h.radix)) served.plain)
 
 pub add-requires-clause-signed : goal.add-requires-clause-signed
 add-requires-clause-signed g c = λ is.
@@ -91,4 +92,4 @@ add-requires-clause-signed g c = λ is.
     let h = c.requires.3 in
     let none : new.fault ≡ None = is_none new.fault (grind (arith, common_steps, c.is_some.ensures, c.if-is_some.false)) in
     let served = some_served r n done c.args.progress.now c.args.errors.now c.args.within.now is (c.push.ensures.sound none) h in
-    (n.is_range, true, n.widths, n.one, done, subst (λ (x : Radix). HasServing n.is_range x true n.widths n.one done c.args.within.now.signed) (sym (c.push.ensures.radix ∙ h.radix)) served.signed)
+    (n.is_range, choice true n.fractions, n.widths, n.one, done, subst (λ (x : Radix). HasServing n.is_range x (choice true n.fractions) n.widths n.one done c.args.within.now.signed) (sym (c.push.ensures.radix ∙ h.radix)) served.signed)

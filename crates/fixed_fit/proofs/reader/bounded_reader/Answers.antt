@@ -9,6 +9,6 @@ returns-in-Ok g c =
     let q = c.args.question.now in
     let widths = c.args.widths in
     let bound = c.args.bound.now in
-    let most = c.most_width.ensures.most ∙ ap (λ (n : ℕ). most_width widths n) c.width-one.ensures.width in
-    subst (λ (n : ℕ). HasRead q.radix (bounded q.is_range n bound widths q.kind.width) [] c.in-Ok.reader) most
-    (c.in-Ok.ensures true q.is_range bound widths q.kind.width c.in_ok-within.ensures.is_bounded (λ _. c.in_ok-within.ensures.served c.most_width.result))
+    let most = c.most_width-most.ensures.most ∙ ap (λ (n : ℕ). most_width widths n) c.width-one.ensures.width in
+    subst (λ (n : ℕ). HasRead q.radix (bounded q.is_range n q.fractions bound widths q.kind.width) [] c.in-Ok.reader) most
+    (c.in-Ok.ensures true q.is_range bound widths q.kind.width c.in_ok-within.ensures.is_bounded (λ _. c.in_ok-within.ensures.served c.most_width-most.result))

@@ -1,11 +1,12 @@
-use Rattle.std.proofs.Common.{◌≡◌, ◌∙◌, ℕ, List, Option, [], ap, arith, inl, inr, refl, subst, sym}
+use Rattle.std.proofs.Common.{◌≡◌, ◌∙◌, ℕ, List, Option, [], ap, arith, inl, refl, subst, sym}
 use Rattle.std.proofs.lemmas.Grind.{common_steps}
 use Rattle.run_engine.specs.LineStatus.{IsStatus}
 use Rattle.run_engine.specs.Machines.{going}
 use Rattle.run_engine.specs.Run.{HasRun}
 use Rattle.run_engine.specs.Seen.{Moment, Seen, moment, seen_of}
+use Rattle.fixed_command.specs.Limits.{limit_of}
 use Rattle.fixed_fit.specs.Inner.Reading.{HasRead}
-use Rattle.fixed_fit.specs.Run.{MakesBy, asked_by, most_bytes}
+use Rattle.fixed_fit.specs.Run.{MakesBy, asked_by}
 use Rattle.fixed_fit.specs.declared.question.Question.{Question}
 use Rattle.fixed_fit.specs.declared.question.Widths.{Widths}
 use Rattle.fixed_fit.specs.declared.reader.FitList.{FitList}
@@ -36,7 +37,7 @@ returns-in-Ok g c =
     ∙ ap (λ i. seen c.source-1.given.0 c.sink-1.given.0 i end.sink.ghost_name) c.run-end.ensures.same.source
     ∙ ap (λ j. seen c.source-1.given.0 c.sink-1.given.0 m j) c.run-end.ensures.same.sink in
     let first = c.in-Ok.list in
-    let at : Moment → Moment → Type 0 = λ x y. HasRun (λ bytes text spent how it. MakesBy first bytes text spent how it.0) c.run-end.new.machine most_bytes x y c.run-end.result in
+    let at : Moment → Moment → Type 0 = λ x y. HasRun (λ bytes text spent how it. MakesBy first bytes text spent how it.0) c.run-end.new.machine (limit_of c.args.limit.now) x y c.run-end.result in
     let steps = c.new.new.steps in
     let then = c.run-end.new.steps in
     let held = c.run-end.new.out.text in
@@ -54,6 +55,6 @@ returns-in-Ok g c =
       bound_is = c.in-Ok.ensures.bound;
       ends = subst (IsStatus c.run-end.result) (sym c.of.ensures.status) c.status_of.ensures;
       run = subst (λ s. at (moment (seen c.args.source.now c.args.sink.now m n) [] steps) (moment s held then)) after
-          (subst (λ s. at (moment s [] steps) (moment b held then)) before (subst (λ t. at (moment a t steps) (moment b held then)) c.new-out.ensures.text c.run-end.ensures));
+          (subst (λ s. at (moment s [] steps) (moment b held then)) before (subst (λ t. at (moment a t steps) (moment b held then)) c.new-out.ensures.text (subst (λ limit. HasRun (λ bytes text spent how it. MakesBy first bytes text spent how it.0) c.run-end.new.machine limit (moment a c.new-out.result.text steps) (moment b held then) c.run-end.result) c.bytes_within.ensures.value c.run-end.ensures)));
       unfit_is = c.of.ensures.unfit;
     })

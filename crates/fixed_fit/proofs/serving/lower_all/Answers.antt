@@ -14,7 +14,7 @@ lowered-requires-clause-most g c =
     let initial = c.deref_mut-left-items.result.now in
     let d = c.left-item.result in
     let few : AreFew initial = subst (λ (l : List Lengths). AreFew l) (sym c.deref_mut-left-items.ensures.value) c.requires.few in
-    subst (λ (l : Lengths). l.count ≤ l.kind.width + 1) (sym (same_element items initial k d c.loop-left.invariant.left)) (few_at initial k d c.loop-left-test.true few)
+    subst (λ (l : Lengths). l.count ≤ 65) (sym (same_element items initial k d c.loop-left.invariant.left)) (few_at initial k d c.loop-left-test.true few)
 
 pub loop-left-preserved : goal.loop-left-preserved
 loop-left-preserved g c =

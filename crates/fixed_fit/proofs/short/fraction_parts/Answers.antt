@@ -17,3 +17,6 @@ returns-clause-most c = rw c.power_of_ten.ensures (omega (arith, (fraction_fits 
 
 pub returns-clause-parts : goal.returns-clause-parts
 returns-clause-parts c = rw c.power_of_ten.ensures (omega (arith, (fraction_fits c.args.found.fraction c.args.found.places (omega (arith, c.if-found-gt18.false)) c.requires).0))
+
+pub returns-clause-same : goal.returns-clause-same
+returns-clause-same c = λ few. rw c.power_of_ten.ensures (fraction_fits c.args.found.fraction c.args.found.places few c.requires).0

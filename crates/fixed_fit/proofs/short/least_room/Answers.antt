@@ -1,4 +1,4 @@
-use Rattle.std.proofs.Common.{◌≡◌, ◌+◌, ◌≤◌, List, take, get_or, min, sym, subst, arith, rules}
+use Rattle.std.proofs.Common.{◌≡◌, ◌≤◌, List, take, get_or, min, sym, subst, arith, rules}
 use Rattle.std.proofs.lemmas.Grind.{common_steps}
 use Rattle.std.proofs.lemmas.List.{take_all, take_more}
 use Rattle.fixed_fit.specs.Inner.Lengths.{IsRoomOf}
@@ -11,7 +11,7 @@ use Rattle.fixed_fit.proofs.short.least_room.Goals as goal
 
 pub room_left-requires : goal.room_left-requires
 room_left-requires c =
-    subst (λ (l : Lengths). l.count ≤ l.kind.width + 1) (sym c.left-item.is) (few_at c.args.lengths.now c.loop-left.left-index c.left-item.result c.loop-left-test.true c.requires)
+    subst (λ (l : Lengths). l.count ≤ 65) (sym c.left-item.is) (few_at c.args.lengths.now c.loop-left.left-index c.left-item.result c.loop-left-test.true c.requires)
 
 pub loop-left-preserved : goal.loop-left-preserved
 loop-left-preserved c =

@@ -24,7 +24,7 @@ returns-then-is_within_room-clause-one_more g c = λ n lines h.
     let line : List ℕ = c.args.line.now in
     let place : ℕ = p.lines + 1 in
     let found = c.in-Some.found in
-    let P : Bool → Option LeastFault → Type 0 = λ b f. HasProgress n (lines ++ line ∷ []) (record { radix = p.radix; lines = place; fault = f; is_below = b; plain = p.plain; signed = p.signed; room = p.room }) in
+    let P : Bool → Option LeastFault → Type 0 = λ b f. HasProgress n (lines ++ line ∷ []) (record { radix = p.radix; fractions = p.fractions; lines = place; fault = f; is_below = b; plain = p.plain; signed = p.signed; room = p.room }) in
     let none : p.fault ≡ None = is_none p.fault (grind (arith, common_steps, c.is_some.ensures, c.if-is_some.false)) in
     let read = rw c.in-Some.is at c.requires.flat in
     let is = c.if-is_within_room.true in

@@ -1,4 +1,4 @@
-use Rattle.std.proofs.Common.{List, ℕ, Option, subst, sym}
+use Rattle.std.proofs.Common.{Option, subst, sym}
 use Rattle.line_engine.specs.Lines.{lines}
 use Rattle.fixed_fit.specs.Inner.Reading.{HasLines}
 use Rattle.fixed_fit.specs.Run.{IsAnswerTo, asked_by}

@@ -1,4 +1,4 @@
-use Rattle.std.proofs.Common.{◌≡◌, ◌++◌, ◌∷◌, ◌+◌, [], List, ℕ, append-nil, refl, subst, sym}
+use Rattle.std.proofs.Common.{◌++◌, ◌∷◌, ◌+◌, [], append-nil, refl, subst, sym}
 use Rattle.line_engine.proofs.Public.{ten}
 use Rattle.run_engine.proofs.Public.{quiet_of}
 use Rattle.run_engine.specs.Machines.{Goes, going, lacking}

@@ -1,4 +1,4 @@
-use Rattle.std.proofs.Common.{◌≡◌, ◌++◌, ◌+◌, [], List, ℕ, arith, is_some, refl, subst, sym}
+use Rattle.std.proofs.Common.{◌++◌, ◌+◌, [], arith, is_some, refl, subst, sym}
 use Rattle.line_engine.specs.Lines.{lines}
 use Rattle.run_engine.specs.Machines.{finished, lacking}
 use Rattle.fixed_fit.specs.Run.{MakesBy, asked_by}

@@ -1,7 +1,7 @@
-use Rattle.std.proofs.Common.{◌≡◌, ◌++◌, ◌+◌, [], List, ℕ, append-nil, refl, subst, sym}
+use Rattle.std.proofs.Common.{◌+◌, [], append-nil, refl, sym}
 use Rattle.run_engine.proofs.Public.{quiet_of}
-use Rattle.run_engine.specs.Machines.{Goes, going, lacking}
-use Rattle.fixed_fit.specs.Run.{MakesBy, asked_by}
+use Rattle.run_engine.specs.Machines.{going, lacking}
+use Rattle.fixed_fit.specs.Run.{asked_by}
 use Rattle.fixed_fit.specs.declared.reader.FitList.{FitList}
 use Rattle.fixed_fit.proofs.ReadingLemmas.{lacks, makes_on, part_read, silent}
 use Rattle.fixed_fit.proofs.reader.FitListPieces.keep.Goals as goal

@@ -17,3 +17,6 @@ returns-then-is_within_room-clause-one_more g c = λ range s widths one lines h 
     let signs : (l : Lengths) → IsIn l v.lengths.items → l.kind.signed ≡ v.signed = λ l is. (left_in c.args.radix s lines l v.lengths.items is (h.serving c.if-not-self.false).lengths).signed ∙ sym h.signed_is in
     let left = all_by_room v.lengths.items found v.room v.signed signs (room.sign c.if-is_within_room.true) read.flat (room.room c.if-is_within_room.true) h.room in
     stays range c.args.radix s widths one lines c.args.line.now c.args.place found.decimal v c.if-not-self.false (c.is_surely_within.ensures c.if-is_surely_within.true) read.read read.flat.exponent left at h
+
+pub is_surely_within-requires : goal.is_surely_within-requires
+is_surely_within-requires g c = let read = rw c.in-Some.is at c.requires.flat in read.read.fraction

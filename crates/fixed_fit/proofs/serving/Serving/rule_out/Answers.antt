@@ -1,5 +1,5 @@
 use Rattle.std.proofs.Common.{◌≡◌, ℕ, true, false, List, refl, sym, subst, arith}
-use Rattle.fixed_fit.specs.Inner.Serving.{AreFew, HaveRoom}
+use Rattle.fixed_fit.specs.Inner.Serving.{AreFew, HaveRoom, IsBestOf}
 use Rattle.fixed_fit.specs.declared.lengths.Lengths.{Lengths}
 use Rattle.fixed_fit.proofs.ServingLemmas.{IsLeastNext, IsWithinNext, ends, few_after, few_of, goes_on, lowered_few, lowered_within}
 use Rattle.fixed_fit.proofs.serving.Serving.rule_out.Goals as goal
@@ -47,12 +47,12 @@ returns-clause-one_more g c = λ range s widths one lines h at.
     let less = c.if-most-self.false in
     let low = c.next_low-self.result in
     let room : HaveRoom c.least_room-self.result c.lower_all-most.new.lengths.items = subst (λ (l : List Lengths). HaveRoom c.least_room-self.result l) c.deref.ensures.value c.least_room-self.ensures in
-    let best = c.best.result in
+    let best = c.best_of.result in
     let width = c.width-width.ensures.width in
     let least = subst (λ (b : List ℕ). IsLeastNext old.is_range r line old.low low b) c.deref-2.ensures.value c.next_low-self.ensures.least in
     let within = subst (λ (b : List ℕ). IsWithinNext old.is_range r line old.low low b) c.deref-2.ensures.value (λ lines w. c.next_low-self.ensures.within lines w (omega (arith, less))) in
     goes_on range r s widths one lines line c.args.place old (record { bound = old.bound; lengths = c.lower_all-most.new.lengths; signed = old.signed; room = c.least_room-self.result; low = low; half = old.half; place = old.place; is_range = old.is_range; is_served = old.is_served; width = c.width-width.result; raised = c.raised_by-self.result }) best refl refl refl refl room refl c.requires.on
-    c.lower_all-most.ensures.lowered within least (omega (arith, less, is)) at c.best.ensures width c.raised_by-self.ensures.same c.raised_by-self.ensures.moved h
+    c.lower_all-most.ensures.lowered within least (omega (arith, less, is)) at (subst (λ (l : List Lengths). IsBestOf low l best) c.deref-3.ensures.value c.best_of.ensures) width c.raised_by-self.ensures.same c.raised_by-self.ensures.moved h
 
 pub least_room-self-requires : goal.least_room-self-requires
 least_room-self-requires g c =

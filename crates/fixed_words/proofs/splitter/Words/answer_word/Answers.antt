@@ -12,7 +12,7 @@ use Rattle.fixed_words.specs.declared.splitter.Words.{Words}
 use Rattle.fixed_words.proofs.WordLemmas.{ends_word}
 use Rattle.fixed_words.proofs.splitter.Words.answer_word.Goals as goal
 
--- a word was answered by the reply to what is read of it
+-- a word was answered by the reply to its bytes
 told : (s : WordRule) (old new : Words) (ends first second third start seen shows reply : List ℕ) (fault : Bool) (ending : Ending) (Sent : List ℕ → Type 0) → 0 < length old.word → first ≡ old.word → second ≡ old.word → third ≡ old.word
     → start ≡ [] → seen ≡ reply → shows ≡ reply → AppendsAnswer (IsReply s.rule) 192 first start reply fault → answer_of s second (record { text = seen; fault = fault }) ≡ shown ending s second seen → new.has_fault ≡ (old.has_fault || is_refused ending)
     → Sent ((shown ending s third shows).text ++ ends) → EndsWord s old.word ends old new Sent
