@@ -1,4 +1,4 @@
--- How two runs ended that took the same, and of which as many reads and writes failed.
+-- Two runs end alike if they took the same input and the same numbers of their reads and writes failed.
 use Rattle.std.proofs.Common.{◌≡◌, ◌-◌, ◌^◌, ◌<◌, ℕ, Bool, true, false, refl}
 use Rattle.std.proofs.lemmas.Bool.{false≢true, true≢false}
 use Rattle.line_engine.specs.Run.{HasFailures}
@@ -6,7 +6,7 @@ use Rattle.line_engine.specs.declared.status.Status.{Status}
 use Rattle.line_engine.specs.declared.status.Status.TheVariants.{Done, Faults, Usage, ReadFault, WriteFault, NoMemory, TooLong}
 use Rattle.line_engine.proofs.Public.{not_failed}
 
--- what the end of a run says of the input: all of it was answered, with a fault or without one, or it is past the limit
+-- what a status says of the input: it was answered, with a fault or without one, or is longer than the limit
 abbrev pub Part : (Bool → Type 0) → Type 0 → Status → Type 0
 Part Answers Past Done = Answers false
 Part Answers Past Faults = Answers true
@@ -19,7 +19,7 @@ Part Answers Past TooLong = Past
 module _ (P Q : Bool → Type 0) (Past Past' : Type 0) (flag_one : (f g : Bool) → P f → Q g → f ≡ g)
     (not_past : (f : Bool) → P f → Past' → ⊥) (past_not : (f : Bool) → Past → Q f → ⊥)
     (read read' write write' : ℕ) (can_read : read < 2 ^ 64 - 1) (can_write : write < 2 ^ 64 - 1) where
-  -- no read and no write failed, or which did
+  -- a read or a write did not fail if its count of failures did not change
   calm_read : read' ≡ read → HasFailures read read' write write' ReadFault → ⊥
   calm_read same f = not_failed read read' can_read same f.0
 

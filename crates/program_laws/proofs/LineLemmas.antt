@@ -20,7 +20,7 @@ use Rattle.program_laws.proofs.TextLemmas.{begins_or, begun_one, one_text, taken
 pub taken_one : (left left' a b : List ℕ) → left ≡ a ++ left' → left ≡ b ++ left' → a ≡ b
 taken_one left left' a b x y = append_cancel_right a b left' (sym x ∙ y)
 
--- what holds or there was no memory, where there was some
+-- a fact that holds unless memory is lacking, if memory is not lacking
 pub found : (s : Status) (P : Type 0) → (s ≡ NoMemory → ⊥) → (s ≡ NoMemory) ⊎ P → P
 found s P some (inl none) = absurd (some none)
 found s P some (inr p) = p
@@ -31,12 +31,12 @@ module _ (A : List ℕ → AnswerText → Type 0) (one : (input : List ℕ) (a b
       let P : List (List ℕ) → Type 0 = λ l. AreAnswers A l rs in
       answers_one A one ys rs qs (subst P same x) y
 
-  -- what is written for the same lines
+  -- the text written for the same lines
   lines_text : (written a b : List ℕ) (xs ys : List (List ℕ)) (rs qs : List AnswerText) → xs ≡ ys → AreAnswers A xs rs → AreAnswers A ys qs
       → a ≡ written ++ written_of rs → b ≡ written ++ written_of qs → a ≡ b
   lines_text written a b xs ys rs qs same x y p q = p ∙ ap (λ r. written ++ written_of r) (replies_one xs ys rs qs same x y) ∙ sym q
 
-  -- as much of what is written for the first of the same lines
+  -- texts of the same length for the first of the same lines
   until_one : (written a b : List ℕ) (xs ys : List (List ℕ)) → xs ≡ ys → AnswersPrefix A xs (Some written) (Some a) → AnswersPrefix A ys (Some written) (Some b)
       → length a ≡ length b → a ≡ b
   until_one written a b xs ys same x y n =
@@ -45,7 +45,7 @@ module _ (A : List ℕ → AnswerText → Type 0) (one : (input : List ℕ) (a b
       (begins_or A one x.some x.more y.some y.more x.replies y.replies (sym x.cut ∙ same ∙ y.cut) x.answers y.answers)
 
   module _ (cut : CutAnywhere) (limit per_byte extra : ℕ) where
-    -- the lines that ended in the bytes within the limit are the first of all lines
+    -- the lines that ended within the limit are the first of all lines
     among : (left' written written' : Option (List ℕ)) (bytes : List ℕ) → AnswersPrefix A (ended_lines (take limit bytes)) written written' ⊎ (IsAtEnd left' × (length bytes ≤ limit) × AnswersPrefix A (lines bytes) written written')
         → AnswersPrefix A (lines bytes) written written'
     among left' written written' bytes (inr x) = x.2
@@ -115,7 +115,7 @@ module _ (A : List ℕ → AnswerText → Type 0) (one : (input : List ℕ) (a b
         let P : Status → Type 0 = λ u. HasRun A limit (Some left) (Some left') (Some written) (Some b) u in
         (same, texts left left' written a b s x.run (subst P (sym same) y.run))
 
-    -- an input past the limit
+    -- inputs longer than the limit
     long_text : (input written a b : List ℕ) (left left' : Option (List ℕ)) → HasRun A limit (Some input) left (Some written) (Some a) TooLong
         → HasRun A limit (Some input) left' (Some written) (Some b) TooLong → a ≡ b
     long_text input written a b left left' x y =

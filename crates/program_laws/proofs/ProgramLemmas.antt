@@ -1,5 +1,5 @@
--- The runs of the programs and of the command's tasks, by what the arguments ask for.
-use Rattle.std.proofs.Common.{◌≡◌, ℕ, List, [], ◌∷◌, refl}
+-- The runs of the programs and of the command's tasks, by what the arguments request.
+use Rattle.std.proofs.Common.{◌≡◌, ℕ, List, Some, [], ◌∷◌, refl}
 use Rattle.std.specs.Prelude.{String}
 use Rattle.std.specs.declared.alloc.Global.{Global}
 use Rattle.line_engine.specs.AnswerText.{AnswerText}
@@ -29,16 +29,25 @@ use Rattle.fixed_columns.specs.Answer as columns
 use Rattle.fixed_columns.specs.Lemmas.ColumnsLemmas.{answer_one as columns_one}
 use Rattle.fixed_columns.specs.Program.{AsksWithin, HasColumnsRun, usage_line as columns_usage}
 use Rattle.fixed_command.specs.Convert.{IsLineReply, IsReply}
-use Rattle.fixed_command.specs.Layout.{IsLaidOut}
+use Rattle.fixed_command.specs.Errors.{IsErrorLine, IsErrorReply}
+use Rattle.fixed_command.specs.LaidList.{laid_out}
+use Rattle.fixed_command.specs.Layout.{AnswersLaidOut, IsLaidOut}
+use Rattle.fixed_command.specs.LeastLines.{IsLeastWritten}
+use Rattle.fixed_command.specs.Lemmas.ErrorLemmas.{error_reply_one}
+use Rattle.fixed_command.specs.Lemmas.LeastLemmas.{least_written_one}
+use Rattle.fixed_command.specs.Lemmas.RenamedLemmas.{renamed_answer_one}
+use Rattle.fixed_command.specs.Renamed.{IsRenamedAnswer}
+use Rattle.fixed_constants.specs.Plain.{IsPlainAnswer, plain_text}
 use Rattle.fixed_command.specs.Lemmas.BlockLemmas.{line_block_one}
+use Rattle.fixed_command.specs.Lemmas.LaidLineLemmas.{laid_answer_one}
 use Rattle.fixed_command.specs.Lemmas.LayoutLemmas.{laid_out_one}
 use Rattle.fixed_command.specs.Lemmas.ProductLemmas.{product_one}
 use Rattle.fixed_command.specs.Lemmas.ReplyLemmas.{line_reply_one, reply_one}
-use Rattle.fixed_command.specs.Limits.{limit_of, max_limit, no_limit}
+use Rattle.fixed_command.specs.Limits.{limit_of, whole_limit_of}
 use Rattle.fixed_command.specs.LineBlocks.{IsLineBlock}
 use Rattle.fixed_command.specs.Products.{IsProduct}
 use Rattle.fixed_command.specs.Runs.{HasLineRun, IsWholeRun, TaskRuns, reported_extra, reported_per_byte}
-use Rattle.fixed_command.specs.declared.task.Task.TheVariants.{Ask, Columns, Constants, Convert, Enclose, LaidOut, Least, Lines, Reported}
+use Rattle.fixed_command.specs.declared.task.Task.TheVariants.{Ask, Columns, Constants, Convert, Enclose, Errors, LaidOut, LaidOutAsk, LaidOutLeast, Least, Lines, Reported}
 use Rattle.program_laws.specs.Laws.{ColumnsRunsAreTheOnes, EncloseRunsAreTheOnes, FormRunsAreTheOnes, LeastRunsAreTheOnes, ProgramRunsAreTheOnes, TaskRunsAreTheOnes}
 use Rattle.program_laws.specs.Runs.{RunsAreTheOnes}
 use Rattle.program_laws.proofs.LineLemmas.{calm_line_one, line_run_one}
@@ -47,7 +56,7 @@ use Rattle.program_laws.proofs.StableLemmas.{along, either}
 use Rattle.program_laws.proofs.WholeLemmas.{calm_whole_one, whole_run_one}
 
 module _ (report : ReportIsTheOne) where
-  -- runs that are at least one over lines, one over a whole input, or one that writes a usage line
+  -- each of these runs is a run over lines, over a whole input, or one that writes a usage line
   by_line : (cut : CutAnywhere) (A : List ℕ → AnswerText → Type 0) → ((line : List ℕ) (a b : AnswerText) → A line a → A line b → a ≡ b) → (limit per_byte extra : ℕ)
       → (Runs : Outside → Outside → Status → Type 0) → ((before after : Outside) (s : Status) → Runs before after s → HasLineRun A limit per_byte extra before after s) → RunsAreTheOnes Runs
   by_line cut A one limit per_byte extra Runs says =
@@ -95,16 +104,25 @@ module _ (report : ReportIsTheOne) where
     enclose_runs_one (word ∷ words) = by_usage enclose.usage_line (HasEncloseRun (word ∷ words)) (λ before after s x. x.usage (λ e. cc))
 
     pub task_runs_one : TaskRunsAreTheOnes
-    task_runs_one (Lines limit) = by_line cut respell.IsAnswer respell_one (limit_of limit) 8 624 (TaskRuns (Lines limit)) (λ before after s x. x)
-    task_runs_one (Convert settings) = by_line cut (IsLineReply settings) (line_reply_one settings) no_limit 8 624 (TaskRuns (Convert settings)) (λ before after s x. x)
-    task_runs_one (LaidOut laid) = by_line cut (IsLaidOut laid.layout (IsReply laid.rule)) (laid_out_one laid.layout (IsReply laid.rule) (reply_one laid.rule)) no_limit 8 624 (TaskRuns (LaidOut laid)) (λ before after s x. x)
-    task_runs_one (Reported laid) = by_line cut (IsLaidOut laid.layout (IsReply laid.rule)) (laid_out_one laid.layout (IsReply laid.rule) (reply_one laid.rule)) no_limit reported_per_byte reported_extra (TaskRuns (Reported laid)) (λ before after s x. x)
-    task_runs_one (Ask form question) = by_line cut (IsLineBlock form question) (line_block_one form question) no_limit 26 3307 (TaskRuns (Ask form question)) (λ before after s x. x)
-    task_runs_one Enclose = by_line cut enclose.IsAnswer enclose_one no_limit 16 1248 (TaskRuns Enclose) (λ before after s x. x)
-    task_runs_one (Least radix) = by_whole (least.IsWholeAnswer radix) (least_one radix) max_limit (TaskRuns (Least radix)) (λ before after s x. x)
-    task_runs_one (Constants rule) = by_whole (IsProduct (constants.IsFormAnswer rule.form rule.guard.now)) (product_one (constants.IsFormAnswer rule.form rule.guard.now) (form_answer_one rule.form rule.guard.now))
-        max_limit (TaskRuns (Constants rule)) (λ before after s x. x)
-    task_runs_one (Columns limit) = by_whole columns.IsWholeAnswer columns_one limit (TaskRuns (Columns limit)) (λ before after s x. x)
+    task_runs_one limit Lines = by_line cut respell.IsAnswer respell_one (limit_of limit) 8 624 (TaskRuns limit Lines) (λ before after s x. x)
+    task_runs_one limit (Convert settings) = by_line cut (IsLineReply settings) (line_reply_one settings) (limit_of limit) 8 624 (TaskRuns limit (Convert settings)) (λ before after s x. x)
+    task_runs_one limit (LaidOut laid) = by_line cut (IsLaidOut laid.layout (IsReply laid.rule)) (laid_out_one laid.layout (IsReply laid.rule) (reply_one laid.rule)) (limit_of limit) 8 624 (TaskRuns limit (LaidOut laid)) (λ before after s x. x)
+    task_runs_one limit (Reported laid) = by_line cut (IsLaidOut laid.layout (IsReply laid.rule)) (laid_out_one laid.layout (IsReply laid.rule) (reply_one laid.rule)) (limit_of limit) reported_per_byte reported_extra (TaskRuns limit (Reported laid)) (λ before after s x. x)
+    task_runs_one limit (Ask form question) = by_line cut (IsLineBlock form question) (line_block_one form question) (limit_of limit) 26 3307 (TaskRuns limit (Ask form question)) (λ before after s x. x)
+    task_runs_one limit (LaidOutAsk form question layout) = by_line cut (AnswersLaidOut layout (IsLineBlock form question)) (laid_answer_one layout (IsLineBlock form question) (line_block_one form question)) (limit_of limit) 26 3307 (TaskRuns limit (LaidOutAsk form question layout)) (λ before after s x. x)
+    task_runs_one limit (Errors lines) = by_line cut (IsErrorLine lines) (laid_out_one lines.layout (IsErrorReply lines.settings) (error_reply_one lines.settings)) (limit_of limit) 11 1565 (TaskRuns limit (Errors lines)) (λ before after s x. x)
+    task_runs_one limit Enclose = by_line cut enclose.IsAnswer enclose_one (limit_of limit) 16 1248 (TaskRuns limit Enclose) (λ before after s x. x)
+    task_runs_one limit (Least rule) = by_whole (IsLeastWritten rule) (least_written_one rule) (whole_limit_of limit) (TaskRuns limit (Least rule)) (λ before after s x. x)
+    task_runs_one limit (LaidOutLeast rule layout) = by_whole (λ input. IsLeastWritten rule (laid_out (Some layout) input)) (λ input a b x y. least_written_one rule (laid_out (Some layout) input) a b x y) (whole_limit_of limit) (TaskRuns limit (LaidOutLeast rule layout)) (λ before after s x. x)
+    task_runs_one limit (Constants rule) = by_whole (IsProduct (IsPlainAnswer (IsRenamedAnswer form))) (product_one (IsPlainAnswer (IsRenamedAnswer form)) plain)
+        (whole_limit_of limit) (TaskRuns limit (Constants rule)) (λ before after s x. x)
+      where
+        form : List ℕ → AnswerText → Type 0
+        form = constants.IsFormAnswer rule.form rule.guard.now
+
+        plain : (input : List ℕ) (a b : AnswerText) → IsPlainAnswer (IsRenamedAnswer form) input a → IsPlainAnswer (IsRenamedAnswer form) input b → a ≡ b
+        plain input a b x y = renamed_answer_one form (form_answer_one rule.form rule.guard.now) (plain_text input) a b x y
+    task_runs_one limit Columns = by_whole columns.IsWholeAnswer columns_one (whole_limit_of limit) (TaskRuns limit Columns) (λ before after s x. x)
 
   by_radix : (args : List (String Global)) (r : Radix) → NamesRadix args r → RunsAreTheOnes (HasLeastRun args)
   by_radix args r names = by_whole (least.IsWholeAnswer r) (least_one r) least_most (HasLeastRun args) (λ before after s x. record {

@@ -1,5 +1,5 @@
--- What two runs have in common is decided by tests: so whatever follows both if the arguments ask for something and if
--- they ask for nothing, holds.
+-- Tests decide whether two runs agree. So they agree if this follows both from a request in the arguments and from the
+-- lack of one.
 use Rattle.std.proofs.Common.{◌≡◌, ◌∙◌, ℕ, List, Bool, true, false, Some, ap, refl, subst, sym}
 use Rattle.std.proofs.lemmas.Slice.Eq.{bytes_eq-Decides}
 use Rattle.std.specs.Bool.{Decides}
@@ -29,7 +29,7 @@ status_stable NoMemory NoMemory h = refl
 status_stable TooLong TooLong h = refl
 status_stable s t h = absurd (h (λ e. cc))
 
--- if what is outside says how a run ended, it says the code and the report
+-- the exit code and the report of a run are determined if its status is
 pub process_one : (Runs : Outside → Outside → Status → Type 0) → ReportIsTheOne → RunIsTheOne Runs → ProcessIsTheOne Runs
 process_one Runs report one left left' written a read read' write write' asked asked' place code other answered told x y failures can_read can_write can_tell some some' p q u v =
     let runs = one left left' written a a read read' write write' 0 p.holds.steps q.holds.steps asked asked' asked' p.status q.status can_read can_write
@@ -42,7 +42,7 @@ module _ (report : ReportIsTheOne) (Runs : Outside → Outside → Status → Ty
   pub all_three : RunIsTheOne Runs → CalmRunIsTheOne Runs → RunsAreTheOnes Runs
   all_three run calm = record { run = run; calm = calm; process = process_one Runs report run }
 
-  -- runs of which more is said than of others
+  -- runs that are also runs of another kind
   pub along : (Others : Outside → Outside → Status → Type 0) → ((before after : Outside) (s : Status) → Runs before after s → Others before after s)
       → RunIsTheOne Others → CalmRunIsTheOne Others → RunsAreTheOnes Runs
   along Others says run calm = all_three
@@ -65,6 +65,6 @@ module _ (report : ReportIsTheOne) (Runs : Outside → Outside → Status → Ty
         bytes_stable a b (λ no. h (λ one. no (one.calm before after other input written a b s t left old new new' calm calm' some some' x y).1)),
       ))
 
-  -- whether the arguments ask for something or not
+  -- the runs agree if they do so with a request and without one
   pub either : (Asks : Type 0) → (Asks → RunsAreTheOnes Runs) → ((Asks → ⊥) → RunsAreTheOnes Runs) → RunsAreTheOnes Runs
   either Asks some none = stable (λ no. no (none (λ asks. no (some asks))))

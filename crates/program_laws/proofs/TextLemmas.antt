@@ -1,4 +1,4 @@
--- Texts of which as many bytes were written.
+-- Texts with the same number of bytes written.
 use Rattle.std.proofs.Common.{◌≡◌, ◌∙◌, ◌+◌, ◌-◌, ◌^◌, ◌<◌, ◌++◌, ◌⊎◌, ℕ, List, [], ◌∷◌, None, Some, length, take, ap, arith, inl, inr, refl, sym, subst, append_assoc, length-append}
 use Rattle.std.proofs.Math.Seq.{take-append_seam}
 use Rattle.std.specs.declared.option.Option.{Option}
@@ -12,16 +12,16 @@ use Rattle.line_engine.specs.declared.status.Status.TheVariants.{WriteFault}
 use Rattle.line_engine.proofs.Public.{not_failed}
 use Rattle.program_laws.specs.Runs.{IsOneText}
 
--- one text, however the runs ended
+-- equal texts, however the runs ended
 pub one_text : (s : Status) (a b : List ℕ) → a ≡ b → IsOneText s a b
 one_text s a b e = record { whole = λ calm. e; as_long = λ same. e }
 
--- prefixes of one text that are as long
+-- prefixes of one text are equal if they have the same length
 pub prefix_one : (p r q t : List ℕ) → length p ≡ length q → p ++ r ≡ q ++ t → p ≡ q
 prefix_one p r q t n e =
     sym (take-append_seam p r) ∙ ap (λ l. take l (p ++ r)) n ∙ ap (λ l. take (length q) l) e ∙ take-append_seam q t
 
--- as many bytes of one input
+-- bytes taken from one input are equal if their numbers are
 pub taken_as_many : (input : List ℕ) (left left' : Option (List ℕ)) (xs ys : List ℕ) → length xs ≡ length ys
     → Consumes (Some input) left xs → Consumes (Some input) left' ys → xs ≡ ys
 taken_as_many input None left' xs ys n x y = absurd x
@@ -34,7 +34,7 @@ same_lengths written p q a b x y n =
     let k : length b ≡ length written + length q = ap length y ∙ length-append written q in
     omega arith
 
--- prefixes of texts of which one begins the other, written after the same
+-- prefixes of a text and of a longer one that starts with it, written after the same bytes
 pub begun_one : (written a b text other more : List ℕ) → text ++ more ≡ other → AppendsPrefix (Some written) (Some a) text → AppendsPrefix (Some written) (Some b) other
     → length a ≡ length b → a ≡ b
 begun_one written a b text other more e x y n =
@@ -49,7 +49,7 @@ prefix_of_one written a b text x y n =
     let same : x.prefix ≡ y.prefix = prefix_one x.prefix x.rest y.prefix y.rest long (sym x.split ∙ y.split) in
     x.appends ∙ ap (λ p. written ++ p) same ∙ sym y.appends
 
--- a text, or as long a prefix of it
+-- a text, or prefixes of it with the same length
 pub text_one : (text : List ℕ) (ending s t : Status) (written a b : List ℕ) (failures failures' : ℕ) → failures < 2 ^ 64 - 1 → (ending ≡ WriteFault → ⊥)
     → WritesText text ending (Some written) (Some a) failures failures' s → WritesText text ending (Some written) (Some b) failures failures' t
     → (s ≡ t) × IsOneText s a b
@@ -69,7 +69,7 @@ further r q rs qs same (inl (z, e)) = inl (z, onto r q (written_of rs) (written_
 further r q rs qs same (inr (z, e)) = inr (z, onto q r (written_of qs) (written_of rs) z (sym same) e)
 
 module _ (A : List ℕ → AnswerText → Type 0) (one : (line : List ℕ) (a b : AnswerText) → A line a → A line b → a ≡ b) where
-  -- of the answers to the first of some lines, those to fewer begin those to more
+  -- the answers to fewer of some first lines begin the answers to more of them
   pub begins_or : (xs more ys others : List (List ℕ)) (rs qs : List AnswerText) → xs ++ more ≡ ys ++ others → AreAnswers A xs rs → AreAnswers A ys qs
       → ((z : List ℕ) × (written_of rs ++ z ≡ written_of qs)) ⊎ ((z : List ℕ) × (written_of qs ++ z ≡ written_of rs))
   begins_or [] more ys others [] qs e x y = inl (written_of qs, refl)

@@ -14,7 +14,7 @@ use Rattle.program_laws.proofs.EndLemmas.{Part, end_one}
 use Rattle.program_laws.proofs.LineLemmas.{found, taken_one}
 use Rattle.program_laws.proofs.TextLemmas.{one_text, prefix_of_one}
 
--- nothing was written by either
+-- neither run wrote anything
 kept : (s : Status) (written a b : List ℕ) → Some a ≡ Some written → Some b ≡ Some written → IsOneText s a b
 kept s written a b x y = let same : Some a ≡ Some b = x ∙ sym y in one_text s a b cc
 

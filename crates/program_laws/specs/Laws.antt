@@ -1,5 +1,5 @@
--- The runs of each program, by any arguments, and of each task of the command are determined.
-use Rattle.std.specs.Prelude.{List, String}
+-- The runs of each program, for any arguments, and of each task of the command are determined.
+use Rattle.std.specs.Prelude.{List, Option, String, ℕ}
 use Rattle.std.specs.declared.alloc.Global.{Global}
 use Rattle.fixed_columns.specs.Program.{HasColumnsRun}
 use Rattle.fixed_command.specs.Runs.{TaskRuns}
@@ -26,4 +26,4 @@ abbrev pub ColumnsRunsAreTheOnes : Type 0
 ColumnsRunsAreTheOnes = (args : List (String Global)) → RunsAreTheOnes (HasColumnsRun args)
 
 abbrev pub TaskRunsAreTheOnes : Type 0
-TaskRunsAreTheOnes = (task : Task) → RunsAreTheOnes (TaskRuns task)
+TaskRunsAreTheOnes = (limit : Option ℕ) (task : Task) → RunsAreTheOnes (TaskRuns limit task)

@@ -1,8 +1,8 @@
 //! Laws of the programs' runs, each the contract of a function that does nothing but call the laws that it follows
 //! from.
 //!
-//! What reads gave is what was taken of the input, and how many of them failed; what writes took is how many failed,
-//! and if one did, how many bytes were written. A run that found no memory is not spoken of.
+//! What reads returned is the bytes taken of the input and the count of failed reads. What writes took is the count of
+//! failed writes and, if one failed, the count of bytes written. Runs without memory are not covered.
 
 ghost use Rattle.program_laws.specs.Laws.{
   ColumnsRunsAreTheOnes,

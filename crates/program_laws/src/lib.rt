@@ -1,5 +1,5 @@
-//! Laws of whole runs: of each program, what its reads gave and its writes took says what it wrote, how it ended and
-//! what it reported.
+//! Laws of whole runs: for each program, what its reads returned and its writes took determines what it wrote, how it
+//! ended and what it reported.
 #![tactic(auto)]
 
 pub mod laws;

@@ -1,0 +1,26 @@
+use Rattle.std.proofs.Common.{◌≡◌, ◌∙◌, ap, arith, inr, subst, sym}
+use Rattle.std.proofs.lemmas.Grind.{common_steps}
+use Rattle.line_engine.specs.Program.{Outside, outside}
+use Rattle.run_engine.specs.LineStatus.{IsStatus}
+use Rattle.json_lines.proofs.run.run_json.Goals as goal
+
+pub returns-in-Ok : goal.returns-in-Ok
+returns-in-Ok g c =
+    let source : ◌≡◌ {A = g.row.S.Denot} c.source-1.given.0 c.run-end.new.out.io.source.now = grind (arith, common_steps, c.run-end.ensures.same.source, c.new-out.ensures.io) in
+    let source_first : ◌≡◌ {A = g.row.S.Denot} c.new-out.result.io.source.now c.args.source.now = grind (arith, common_steps, c.new-out.ensures.io) in
+    let sink : ◌≡◌ {A = g.row.K.Denot} c.sink-1.given.0 c.run-end.new.out.io.sink.now = grind (arith, common_steps, c.run-end.ensures.same.sink, c.new-out.ensures.io) in
+    let sink_first : ◌≡◌ {A = g.row.K.Denot} c.new-out.result.io.sink.now c.args.sink.now = grind (arith, common_steps, c.new-out.ensures.io) in
+    let at : g.row.S.Denot → g.row.K.Denot → Outside = λ s k. outside (g.S.Source.left s) (g.S.Source.asked s) (g.S.Source.failures s) (g.K.Sink.written k) (g.K.Sink.failures k) c.args.steps.now in
+    let then : g.row.S.Denot → g.row.K.Denot → Outside = λ s k. outside (g.S.Source.left s) (g.S.Source.asked s) (g.S.Source.failures s) (g.K.Sink.written k) (g.K.Sink.failures k) c.run-end.new.steps in
+    inr (record {
+      first = c.in-Ok.lines;
+      last = c.run-end.new.machine;
+      a = _;
+      b = _;
+      end = c.run-end.result;
+      is_first = c.in-Ok.ensures.task;
+      is_before = ap (λ s. at s c.new-out.result.io.sink.now) source_first ∙ ap (λ k. at c.args.source.now k) sink_first;
+      is_after = ap (λ s. then s c.run-end.new.out.io.sink.now) (sym source) ∙ ap (λ k. then c.source-1.given.0 k) (sym sink);
+      ends = subst (IsStatus c.run-end.result) (sym c.of.ensures) c.status_of.ensures;
+      run = c.run-end.ensures;
+    })

@@ -1,0 +1,2 @@
+-- Lemmas that implementations cite.
+pub mod RunLaws

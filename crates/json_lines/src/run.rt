@@ -1,0 +1,85 @@
+//! Answers the lines of JSON of an input, over any source and any sink.
+
+ghost use Rattle.std.specs.Prelude.{◌≡◌, ◌⊎◌};
+ghost use Rattle.line_engine.specs.Program.{outside};
+ghost use Rattle.line_engine.specs.declared.status.Status.{Status};
+ghost use Rattle.json_lines.specs.Run.{HasJsonRun};
+
+use crate::refusals::{JsonRefusal, JsonRefusals};
+use crate::splitter::JsonLines;
+use crate::task::JsonTask;
+use column_engine::FieldRule;
+use fixed_command::status_of;
+use fixed_steps::Steps;
+use line_engine::{Sink, Source, Status};
+use run_engine::{Cut, Devices, Gathered, run};
+use std::alloc::Global;
+use std::mem;
+use std::sync::ledger::Ledger;
+
+/// The longest input, in bytes.
+pub const MOST_BYTES: u64 = 4_611_686_018_427_387_903;
+
+/// How a run over lines of JSON ended.
+#[derive(Drop)]
+pub struct JsonEnd {
+    /// Its status: `Faults` if a line was refused.
+    pub status: Status,
+    /// How many lines were refused.
+    pub refused: u64,
+    /// The first refused line.
+    pub first: Option<JsonRefusal>,
+}
+
+impl JsonEnd {
+    /// Returns the end of a run with this status.
+    fn of(refusals: JsonRefusals, status: Status) -> JsonEnd
+        ensures { result.status ≡ status }
+    {
+        JsonEnd {
+            status,
+            refused: refusals.count,
+            first: refusals.first,
+        }
+    }
+}
+
+/// Answers each line of an input: the values at the path are exchanged for the replies of the rule, and every other
+/// byte stays. Returns how that ended.
+///
+/// A refused line is answered by `error: ` and the cause, or stays if refused lines are kept. A line is refused if it
+/// is not JSON, if it has no value at the path, if one of its values is refused, or if it or its answer has more than
+/// 1,048,576 bytes. The answers to the lines that ended in a chunk of 4,096 bytes are written before the next is read.
+/// Before the first read it allocates a line, an answer and a record; afterwards only the reader of JSON allocates, at
+/// most the length of the longest line. It ends with `NoMemory` if that fails. An input of 2^62 bytes is too long.
+pub fn run_json<'a, A: FieldRule<L>, S: Source, K: Sink, L: Ledger>(
+    alloc: Global,
+    task: &'a JsonTask<'a, A>,
+    source: &mut S,
+    sink: &mut K,
+    steps: &mut Steps<L>,
+) -> JsonEnd
+    // The bytes read, made and written, by status; which count of failures rose; and what reads requested; or there was
+    // no memory before the first read.
+    ensures { ((source.new ≡ source.old) × (sink.new ≡ sink.old) × (result.status ≡ Status.NoMemory))
+        ⊎ HasJsonRun (λ rule. A.Answers rule) task.now
+        (outside (S.left source.old) (S.asked source.old) (S.failures source.old) (K.written sink.old)
+        (K.failures sink.old) steps.old)
+        (outside (S.left source.new) (S.asked source.new) (S.failures source.new) (K.written sink.new)
+        (K.failures sink.new) steps.new) result.status }
+{
+    match JsonLines::new(alloc, task) {
+        Err(_) => JsonEnd {
+            status: Status::NoMemory,
+            refused: 0,
+            first: None,
+        },
+        Ok(lines) => {
+            let mut machine = Cut(lines);
+            let mut out = Gathered::new(Devices { source, sink });
+            let end = run(&mut machine, MOST_BYTES, &mut out, steps);
+            let refusals = mem::replace(&mut machine.0.refusals, JsonRefusals::new());
+            JsonEnd::of(refusals, status_of(end))
+        }
+    }
+}
