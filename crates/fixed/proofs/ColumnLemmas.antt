@@ -1,10 +1,10 @@
--- The columns that a list of words names.
+-- The columns that a list of operands names.
 use Rattle.std.proofs.Common.{◌≡◌, ◌++◌, ◌∙◌, ◌<◌, ◌+◌, ℕ, suc, zero, Bool, Bor, List, [], ◌∷◌, length, get_or, map, take, ap, subst, sym, arith}
 use Rattle.std.proofs.lemmas.List.{get_or-map, length-map, map_more}
 use Rattle.column_engine.specs.declared.columns.Column.{Column}
 use Rattle.fixed.specs.Columns.{AreColumnWords, IsColumnWord, IsRangeWord}
 
--- a word more, and its column
+-- one more operand and its column
 pub words_more : (header : Bool) (words : List (List ℕ)) (columns : List Column) (word : List ℕ) (column : Column) → AreColumnWords header words columns
     → IsColumnWord IsRangeWord header word column → AreColumnWords header (words ++ word ∷ []) (columns ++ column ∷ [])
 words_more header [] [] word column x y = (y, tt)
@@ -12,7 +12,7 @@ words_more header [] (c ∷ cs) word column x y = absurd x
 words_more header (w ∷ ws) [] word column x y = absurd x
 words_more header (w ∷ ws) (c ∷ cs) word column x y = (x.0, words_more header ws cs word column x.1 y)
 
--- each of the words has a column
+-- each operand has a column
 pub word_in : (header : Bool) (words : List (List ℕ)) (columns : List Column) (at : ℕ) (d : List ℕ) → at < length words → AreColumnWords header words columns
     → (column : Column) × IsColumnWord IsRangeWord header (get_or words at d) column
 word_in header [] columns at d low x = absurd (omega arith)
@@ -20,7 +20,7 @@ word_in header (w ∷ ws) [] at d low x = absurd x
 word_in header (w ∷ ws) (c ∷ cs) zero d low x = (c, x.0)
 word_in header (w ∷ ws) (c ∷ cs) (suc at) d low x = word_in header ws cs at d (omega arith) x.1
 
--- the same of the texts of some references
+-- the operands, as texts
 abbrev pub texts : List (Bor (List ℕ)) → List (List ℕ)
 texts parts = map (λ s. s.now) parts
 

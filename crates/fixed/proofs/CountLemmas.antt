@@ -1,4 +1,4 @@
--- Numbers of 64 bits in decimal, as `parse` reads them.
+-- Decimal numbers of 64 bits, as `parse` reads them.
 use Rattle.std.proofs.Common.{◌≡◌, ◌≢◌, ℕ, ◌^◌, ◌<◌, Bool, List, length, get_or, sym, ap, subst, arith, zero, drop, cond, ◌∙◌}
 use Rattle.std.specs.Fmt.{decimal}
 use Rattle.std.specs.Str.Parse.{AllDigits, IsNumeral, digits_value, without_leading_plus}
@@ -13,7 +13,7 @@ own = numerals_by_value (AllDigits 10) tells_digits
 pub no_plus : (word : List ℕ) → get_or word 0 0 ≢ 43 → without_leading_plus word ≡ word
 no_plus word ne = ap (λ (b : Bool). drop (cond b 1 0) word) (ne_eqb (get_or word 0 0) 43 ne)
 
--- what is read of digits without a leading zero is the number that they are in decimal
+-- a numeral without a plus and without leading zeros is the decimal form of its value
 pub read_is : (word : List ℕ) (n : ℕ) → get_or word 0 0 ≢ 43 → (get_or word 0 0 ≡ 48 → length word ≡ 1)
     → IsNumeral 10 (without_leading_plus word) → digits_value 10 (without_leading_plus word) < 2 ^ 64
     → n ≡ digits_value 10 (without_leading_plus word) → word ≡ decimal n
@@ -24,7 +24,7 @@ read_is word n ne lead numeral small is =
     let fits : digits_value 10 word < 2 ^ 64 = subst (λ (l : List ℕ). digits_value 10 l < 2 ^ 64) same small in
     sym (ap decimal value ∙ decimal-digits_value own word plain.1 plain.0 lead fits)
 
--- a number in decimal begins with no plus, and with a zero only where it is one
+-- a decimal number does not start with a plus, and starts with a zero only if it is zero
 pub record IsReadable (word : List ℕ) : Type 0 where
   pub no_sign : get_or word 0 0 ≢ 43
   pub lead : get_or word 0 0 ≡ 48 → length word ≡ 1

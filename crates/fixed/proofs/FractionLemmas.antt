@@ -1,5 +1,5 @@
 -- Halves of decimal fractions.
-use Rattle.std.proofs.Common.{◌≡◌, ◌∙◌, ℕ, zero, suc, ◌+◌, ◌*◌, ◌/◌, ◌%◌, ◌^◌, ◌<◌, ◌++◌, List, [], ◌∷◌, false, length, take, get_or, refl, sym, ap, subst, arith, length-append, pow-suc, add-one, ◌-◌}
+use Rattle.std.proofs.Common.{◌≡◌, ◌∙◌, ℕ, zero, suc, ◌+◌, ◌*◌, ◌/◌, ◌%◌, ◌^◌, ◌<◌, ◌++◌, List, [], ◌∷◌, false, length, take, get_or, refl, sym, ap, subst, arith, length-append, ◌-◌}
 use Rattle.std.specs.Prelude.{codes}
 use Rattle.std.specs.Char.{digit_value}
 use Rattle.std.specs.Fmt.{digit_glyph}
@@ -22,11 +22,11 @@ value_of d h = grind arith
 value_at : (b : ℕ) → IsInRange 48 57 b → digit_value b ≡ b - 48
 value_at b at = grind (arith, at)
 
--- the digits of no number
+-- zero digits
 pub none : IsFraction 0 0 []
 none = record { text = sym (last_digits_none 10 false 0); are = tt; value = refl; long = refl }
 
--- and one digit more
+-- one more digit
 pub one_more : (k n d c : ℕ) (ds : List ℕ) → IsFraction k n ds → d < 10 → c ≡ 48 + d → IsFraction (k + 1) (n * 10 + d) (ds ++ c ∷ [])
 one_more k n d c ds x h e =
     let whole : (n * 10 + d) / 10 ≡ n = omega arith in
@@ -41,7 +41,7 @@ one_more k n d c ds x h e =
       long = length-append ds (c ∷ []) ∙ omega (arith, x.long);
     }
 
--- the digits of half of what was read, and whether one is left
+-- the digits of half of the digits read so far, and the remainder of the halving
 pub record IsHalving (digits half : List ℕ) (at rest : ℕ) : Type 0 where
   pub half_is : IsFraction at (digits_value 10 (take at digits) / 2) half
   pub rest_is : rest ≡ digits_value 10 (take at digits) % 2
@@ -77,14 +77,9 @@ halved_is digits half more at rest c e x f g =
     subst (λ (l : List ℕ). IsFraction (length digits + 1) (5 * digits_value 10 digits) l) (sym g)
     (subst (λ i. IsFraction (i + 1) (5 * digits_value 10 digits) (half ++ c ∷ [])) e (subst (λ n. IsFraction (at + 1) n (half ++ c ∷ [])) same made))
 
--- ---- powers
+-- ---- powers of a half
 pub first_power : IsFraction 1 (5 ^ 1) (53 ∷ [])
 first_power = one_more 0 0 5 53 [] none (omega arith) refl
-
-pub next_power : (k : ℕ) (ds more : List ℕ) → IsFraction k (5 ^ k) ds → IsFraction (length ds + 1) (5 * digits_value 10 ds) more → IsFraction (k + 1) (5 ^ (k + 1)) more
-next_power k ds more x y =
-    let n : 5 * digits_value 10 ds ≡ 5 ^ (k + 1) = omega (arith, x.value, ap (λ i. 5 ^ i) (add-one k), pow-suc 5 k) in
-    subst (λ i. IsFraction (i + 1) (5 ^ (k + 1)) more) x.long (subst (λ n. IsFraction (length ds + 1) n more) n y)
 
 pub power_is : (k : ℕ) (ds text : List ℕ) → 0 < k → IsFraction k (5 ^ k) ds → text ≡ codes "0." ++ ds → text ≡ half_power k
 power_is zero ds text some x e = absurd (omega arith)

@@ -1,4 +1,4 @@
--- What words ask for is one thing at most.
+-- The operands and options of a command line determine at most one request.
 use Rattle.std.proofs.Common.{◌≡◌, ℕ, ◌+◌, ◌-◌, ◌≤◌, ◌==◌, Bool, true, false, Option, Some, None, List, [], ◌∷◌, length, get_or, refl, sym, ap, ◌∙◌, subst, arith, inl, inr, if◌then◌else◌, true≢false}
 use Rattle.std.specs.Prelude.{codes, is_some, not, unwrap_or, ◌&&◌, ◌||◌}
 use Rattle.std.specs.Fmt.{decimal}
@@ -22,21 +22,24 @@ use Rattle.fixed_command.specs.declared.print.Print.TheVariants.{Places}
 use Rattle.fixed_command.proofs.Public.{names_one}
 use Rattle.fixed_constants.specs.Program.{NamesLanguage}
 use Rattle.fixed_constants.specs.declared.form.Form.{Form}
+use Rattle.fixed_fit.specs.declared.question.Fractions.{Fractions}
+use Rattle.fixed_fit.specs.declared.question.Fractions.TheVariants.{Beyond, Whole}
 use Rattle.fixed_numeral.specs.declared.radix.Radix.{Radix}
 use Rattle.fixed_pack.specs.declared.endian.Endian.{Endian}
 use Rattle.fixed_pack.specs.declared.endian.Endian.TheVariants.{Big, Little}
-use Rattle.fixed_respell.proofs.Public.{name_one}
+use Rattle.fixed_names.proofs.Public.{name_one}
 use Rattle.fixed_show.specs.declared.parts.Part.{Part}
 use Rattle.fixed_command.specs.declared.field.FieldForm.{FieldForm}
 use Rattle.fixed_words.specs.declared.rule.Leaving.{Leaving}
 use Rattle.fixed_words.specs.declared.rule.Leaving.TheVariants.{Everything, NoNumerals, Nothing}
-use Rattle.fixed.specs.Columns.{AreColumnWords, AreColumnsAsked, AreColumnsBy, AreColumnsOf, IsColumnWord, IsDecimalWord, IsDelimiterWord, IsDestinationBy, IsMarkAsked, IsOneWord, IsRangeIf, IsRangeWord, IsSkipWord, IsThousandsAsked, empty_text}
+use Rattle.fixed.specs.Columns.{AreColumnWords, AreColumnsAsked, AreColumnsBy, AreColumnsOf, IsColumnWord, IsDecimalWord, IsDelimiterWord, IsDestinationBy, IsMarkAsked, IsOneWord, IsRangeIf, IsRangeWord, IsThousandsAsked, empty_text}
 use Rattle.fixed.specs.Constants.{IsArrayAsked, IsArrayWord, IsFormAsked as IsConstantsAsked, IsGuardAsked, IsNameBy, IsNumeralsAsked, is_file}
-use Rattle.fixed.specs.Fit.{IsErrorAsked, IsErrorBy}
+use Rattle.fixed.specs.Fit.{IsErrorAsked, IsErrorBy, IsFractionsAsked}
 use Rattle.fixed.specs.Laws.{AreSameColumns, ColumnsAreTheOnes, ConstantsAreTheOnes, IsOne, IsSameColumn, LinesAreTheOnes, SettingsAreTheOnes}
 use Rattle.fixed.specs.Lines.{IsCommentAsked, IsFieldAsked, IsFormatAsked, IsKindAsked, IsKindWord, IsLayoutAsked, IsPartBy, IsTargetAsked, IsTargetBy, is_like_format}
 use Rattle.fixed_bits.specs.declared.mode.ReadMode.TheVariants.{NearestEven}
-use Rattle.fixed.specs.Settings.{IsPrintAsked, endian_text}
+use Rattle.fixed.specs.Settings.{IsCountWord, IsExcerptAsked, IsLimitAsked, IsPrintAsked, endian_text}
+use Rattle.fixed.specs.declared.commands.unpack_words.Excerpt.{Excerpt}
 use Rattle.fixed.specs.Words.{IsLeavingAsked, IsLeavingWord}
 use Rattle.fixed.proofs.RangeLemmas.{IsNoDigit, after_mark, digits_of_decimal, one_word_one, range_one}
 
@@ -52,8 +55,8 @@ delimiter_one word a b (inr (e, inl y)) (inl x) = absurd (omega (arith, ap lengt
 delimiter_one word a b (inr (e, inr y)) (inl x) = absurd (omega (arith, ap length (sym x.0 ∙ y)))
 delimiter_one word a b (inr x) (inr y) = x.0 ∙ sym y.0
 
-skip_one : (word : List ℕ) → IsOne ℕ (IsSkipWord word)
-skip_one word a b x y = decimal_injective a b x.fits y.fits (sym x.text ∙ y.text)
+count_one : (word : List ℕ) → IsOne ℕ (IsCountWord word)
+count_one word a b x y = decimal_injective a b x.fits y.fits (sym x.text ∙ y.text)
 
 empty_at : List ℕ → Empty
 empty_at word = if byte_at 0 word == 102 then Refused else if byte_at 0 word == 107 then Kept else Zero
@@ -133,7 +136,7 @@ columns_by_one given us bs m n x y = by_one (has_flag given (codes "all")) (word
 pub columns_one : ColumnsAreTheOnes
 columns_one = record {
   delimiter = delimiter_one;
-  skip = skip_one;
+  skip = count_one;
   form = λ given a b x y. record {
     trimmed = x.trimmed ∙ sym y.trimmed;
     decimal = ap (λ (l : List ℕ). get_or l 0 0) (sym x.decimal.text ∙ y.decimal.text);
@@ -326,6 +329,18 @@ unfolding endian_at byte_at
 endian_back Little = refl
 endian_back Big = refl
 
+excerpt_one : (given : Given) → IsOne Excerpt (IsExcerptAsked given)
+excerpt_one given a b x y =
+    let skip : a.skip ≡ b.skip = count_one _ a.skip b.skip x.skip y.skip in
+    let count : a.count ≡ b.count = count_one _ a.count b.count x.count y.count in
+    λ i. record { skip = skip i; count = count i }
+
+limit_one : (word : Option (List ℕ)) → IsOne (Option ℕ) (IsLimitAsked word)
+limit_one None a b x y = x ∙ sym y
+limit_one (Some word) None b x y = absurd x
+limit_one (Some word) (Some a) None x y = absurd y
+limit_one (Some word) (Some a) (Some b) x y = ap Some (decimal_injective a b (omega (arith, x.most)) (omega (arith, y.most)) (sym x.text ∙ y.text))
+
 error_one : (radix : Radix) (word : Option (List ℕ)) → IsOne (Option (List ℕ)) (IsErrorAsked radix word)
 error_one radix None None None x y = refl
 error_one radix None None (Some b) x y = absurd y
@@ -338,9 +353,21 @@ error_one radix (Some word) (Some a) (Some b) x y = ap Some (by _ x y)
     by true x y = x.1 ∙ sym y.1
     by false x y = x.2 ∙ sym y.2
 
+fractions_one : (width : ℕ) (word : Option (List ℕ)) (beyond : Bool) → width ≤ 64 → IsOne Fractions (IsFractionsAsked width word beyond)
+fractions_one width None beyond most (Whole a) (Whole b) x y = ap Whole (x.1 ∙ sym y.1)
+fractions_one width None beyond most (Whole a) Beyond x y = let no : false ≡ true = sym x.0 ∙ y in cc
+fractions_one width None beyond most Beyond (Whole b) x y = let no : false ≡ true = sym y.0 ∙ x in cc
+fractions_one width None beyond most Beyond Beyond x y = refl
+fractions_one width (Some word) beyond most (Whole a) (Whole b) x y = ap Whole (decimal_injective a b (omega (arith, x.1.most, most)) (omega (arith, y.1.most, most)) (sym x.1.text ∙ y.1.text))
+fractions_one width (Some word) beyond most (Whole a) Beyond x y = absurd y
+fractions_one width (Some word) beyond most Beyond b x y = absurd x
+
 pub settings_one : SettingsAreTheOnes
 settings_one = record {
   print = print_one;
   endian = λ a b e. sym (endian_back a) ∙ (ap endian_at e ∙ endian_back b);
+  excerpt = excerpt_one;
+  limit = limit_one;
   error = error_one;
+  fractions = fractions_one;
 }

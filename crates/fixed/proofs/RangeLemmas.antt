@@ -1,4 +1,4 @@
--- Ranges of columns in words.
+-- Ranges of columns in operands.
 use Rattle.std.proofs.Common.{◌≡◌, ◌≢◌, ℕ, ◌+◌, ◌^◌, ◌<◌, List, [], ◌∷◌, ◌++◌, length, get_or, sym, ap, subst, arith, suc, drop, take, refl, ◌∙◌, inl, inr, false, length-append}
 use Rattle.std.proofs.Common.{ne_eqb, eq-eqb, eqb-true}
 use Rattle.std.proofs.Math.ListN.{get_or-append}
@@ -13,7 +13,7 @@ use Rattle.std.proofs.lemmas.Str.Parse.{digit_at}
 use Rattle.column_engine.specs.declared.columns.Range.{Range}
 use Rattle.fixed.specs.Columns.{IsOneWord, IsRangeWord, IsSpan}
 
--- no digit is this byte
+-- a byte that is not a digit
 abbrev pub IsNoDigit : ℕ → Type 0
 IsNoDigit m = (d : ℕ) → IsInRange 48 57 d → d ≢ m
 
@@ -23,7 +23,7 @@ hyphen d at e = omega (arith, at, e)
 no_digit : (m : ℕ) → IsNoDigit m → (ds : List ℕ) (k : ℕ) → AllDigits 10 ds → k < length ds → (get_or ds k 0 == m) ≡ false
 no_digit m never ds k d low = ne_eqb (get_or ds k 0) m (never (get_or ds k 0) (digit_at ds k d low))
 
--- no digit is a hyphen
+-- digits contain no hyphen
 no_hyphen : (ds : List ℕ) → AllDigits 10 ds → position_or_len (λ b. b == 45) ds ≡ length ds
 no_hyphen ds d = position_or_len_is (λ b. b == 45) ds (length ds) 0 (omega arith) (λ k l. no_digit 45 hyphen ds k d l) (λ l. absurd (omega arith))
 
@@ -39,7 +39,7 @@ drop_front : (m : ℕ) (ds es : List ℕ) → drop (suc (length ds)) (ds ++ m �
 drop_front m [] es = refl
 drop_front m (c ∷ cs) es = drop_front m cs es
 
--- so the first such byte of two numbers with it between is that one
+-- in a text of digits and then this byte, the byte is the first of its kind
 first_mark : (m : ℕ) → IsNoDigit m → (ds es : List ℕ) → AllDigits 10 ds → position_or_len (λ b. b == m) (ds ++ m ∷ es) ≡ length ds
 first_mark m never ds es d = position_or_len_is (λ b. b == m) (ds ++ m ∷ es) (length ds) 0
     (omega (arith, length-append ds (m ∷ es)))
@@ -76,12 +76,12 @@ rejoined word low =
     split_at_first (λ b. b == 45) word 0 low
     ∙ ap (λ (b : ℕ). before_first (λ b. b == 45) word ++ b ∷ after_first (λ b. b == 45) word) at
 
--- a and b stand round the first hyphen of the word
+-- `a` and `b` are the parts of the operand before and after its first hyphen
 abbrev pub IsCut : List ℕ → List ℕ → List ℕ → Type 0
 IsCut word a b = (a ≡ before_first (λ b. b == 45) word) × (b ≡ after_first (λ b. b == 45) word)
     × (position_or_len (λ b. b == 45) word < length word)
 
--- what two words round the first hyphen are, the word is
+-- an operand with a hyphen is a range if and only if its two parts are the ends of one
 pub cut_is : (word a b : List ℕ) (r : Option Range) → IsCut word a b
     → MatchOption r ((x : Range) → ¬ IsSpan a b x) (λ x. IsSpan a b x)
     → MatchOption r ((x : Range) → ¬ IsRangeWord word x) (λ x. IsRangeWord word x)
@@ -102,7 +102,7 @@ cut_is word a b None cut h = none
         let eb : b ≡ last = cut.1 ∙ ap (after_first (λ b. b == 45)) is ∙ after_is first last d in
         h x (record { ordered = span.ordered; fits = span.fits; first_is = ea ∙ span.first_is; last_is = eb ∙ span.last_is })
 
--- what a word without a hyphen is as one column, it is
+-- an operand without a hyphen is a range if and only if it is the number of a column
 pub whole_is : (word : List ℕ) (r : Option Range) → position_or_len (λ b. b == 45) word ≡ length word
     → MatchOption r ((x : Range) → ¬ IsOneWord word x) (λ x. IsOneWord word x)
     → MatchOption r ((x : Range) → ¬ IsRangeWord word x) (λ x. IsRangeWord word x)
@@ -116,7 +116,7 @@ whole_is word None lacks h = none
         let at : position_or_len (λ b. b == 45) word ≡ length first = ap (position_or_len (λ b. b == 45)) is ∙ first_hyphen first last d in
         omega (arith, at, lacks, ap length is, length-append first (45 ∷ last))
 
--- a number is no two with a hyphen between
+-- an operand that is one number is not two numbers around a hyphen
 never_both : (word : List ℕ) (a b : Range) → IsOneWord word a
     → ((first : List ℕ) × (last : List ℕ) × (word ≡ first ++ 45 ∷ last) × IsSpan first last b) → ⊥
 never_both word a b one (first, last, is, span) =
@@ -134,7 +134,7 @@ one_word_one word a b x y =
     let to : a.to ≡ b.to = omega (arith, decimal_injective (a.to + 1) (b.to + 1) x.fits y.fits (sym x.text ∙ y.text)) in
     made a b (x.one ∙ (to ∙ sym y.one)) to
 
--- a word is one range at most
+-- an operand means at most one range
 pub range_one : (word : List ℕ) (a b : Range) → IsRangeWord word a → IsRangeWord word b → a ≡ b
 range_one word a b (inl x) (inl y) = one_word_one word a b x y
 range_one word a b (inl x) (inr y) = absurd (never_both word a b x y)

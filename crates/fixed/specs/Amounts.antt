@@ -2,6 +2,10 @@
 use Rattle.std.specs.Prelude.{◌≡◌, ℕ, false, None, Option, Some, List, codes}
 use Rattle.command_line.specs.Words.{has_flag, value_of}
 use Rattle.command_line.specs.declared.given.Given.{Given}
+use Rattle.fixed_amounts.specs.Names.{IsDecimalName}
+use Rattle.fixed_amounts.specs.Reading.{words as unit_words}
+use Rattle.fixed_amounts.specs.declared.facts.AmountQuestion.{AmountQuestion}
+use Rattle.fixed_amounts.specs.declared.facts.AmountQuestion.TheVariants as question
 use Rattle.fixed_amounts.specs.declared.settings.AmountPrint.{AmountPrint}
 use Rattle.fixed_amounts.specs.declared.settings.AmountPrint.TheVariants as amount
 use Rattle.fixed_amounts.specs.declared.settings.AmountSettings.{AmountSettings}
@@ -16,7 +20,15 @@ use Rattle.fixed_command.specs.declared.print.Print.{Print}
 use Rattle.fixed_command.specs.declared.print.Print.TheVariants.{All, Bits, Hex, Places, Readmemh, Text, Value}
 use Rattle.fixed_command.specs.declared.spelling.Spelling.{Spelling}
 use Rattle.fixed_command.specs.declared.spelling.Spelling.TheVariants.{Numeral, Word}
+use Rattle.fixed_pack.specs.declared.amounts.PackAmounts.{PackAmounts}
+use Rattle.fixed_pack.specs.declared.bits.PackBits.{PackBits}
+use Rattle.fixed_pack.specs.declared.endian.Endian.{Endian}
+use Rattle.fixed_pack.specs.declared.endian.Endian.TheVariants.{Little}
 use Rattle.fixed_respell.specs.Words.{mode_text, policy_text}
+use Rattle.fixed.specs.Pack.{AreBitsAsked}
+use Rattle.fixed.specs.Settings.{endian_text, pack_input_text}
+use Rattle.fixed.specs.declared.settings.PackInput.{PackInput}
+use Rattle.fixed.specs.declared.settings.PackInput.TheVariants.{Numerals}
 
 -- what of an amount is written for a part of an answer: its text is its exact value
 abbrev pub amount_print : Print → AmountPrint
@@ -59,3 +71,42 @@ pub record IsAmountAsked (given : Given) (format : ℕ) (s : AmountSettings) : T
   pub prints : Print
   pub is_print : IsPrintNamed (value_of given (codes "print")) prints
   pub print_is : s.print ≡ amount_print prints
+
+-- and this question about a numeral
+pub record IsNumeralAsked (given : Given) (format : ℕ) (q : AmountQuestion) : Type 0 where
+  pub radix : IsRadixTen (value_of given (codes "radix"))
+  pub policy : Policy
+  pub is_policy : IsNamed Policy policy_text Checked (value_of given (codes "policy")) policy
+  pub mode : ReadMode
+  pub is_mode : IsNamed ReadMode mode_text NearestEven (value_of given (codes "mode")) mode
+  pub question_is : q ≡ question.Numeral format policy mode
+
+-- and this about a count of units
+pub record AreUnitsAsked (given : Given) (format : ℕ) (q : AmountQuestion) : Type 0 where
+  pub radix : IsRadixTen (value_of given (codes "radix"))
+  pub field : value_of given (codes "field") ≡ None
+  pub swap : has_flag given (codes "swap") ≡ false
+  pub question_is : q ≡ question.Units format
+
+-- ---- the decimal format of a word
+abbrev pub IsDecimalAsked : Option (List ℕ) → ℕ → Type 0
+IsDecimalAsked None format = ⊥
+IsDecimalAsked (Some word) format = IsDecimalName word format
+
+abbrev pub NamesNoDecimal : Option (List ℕ) → Type 0
+NamesNoDecimal word = (format : ℕ) → ¬ IsDecimalAsked word format
+
+-- ---- packing
+-- lines are packed so
+pub record IsAmountPackAsked (given : Given) (format : ℕ) (p : PackAmounts) : Type 0 where
+  pub input : IsNamed PackInput pack_input_text Numerals (value_of given (codes "from")) Numerals
+  pub radix : IsRadixTen (value_of given (codes "radix"))
+  pub report : has_flag given (codes "report") ≡ false
+  pub format_is : p.format ≡ format
+  pub policy : IsNamed Policy policy_text Checked (value_of given (codes "policy")) p.policy
+  pub mode : IsNamed ReadMode mode_text NearestEven (value_of given (codes "mode")) p.mode
+  pub endian : IsNamed Endian endian_text Little (value_of given (codes "endian")) p.endian
+
+-- words of bits are packed so: each is a count of units
+abbrev pub AreUnitBitsAsked : Given → PackBits → Type 0
+AreUnitBitsAsked given p = IsRadixTen (value_of given (codes "radix")) × AreBitsAsked given unit_words p

@@ -1,4 +1,4 @@
--- What the words of `fixed column` ask for.
+-- The meaning of the operands and options of `fixed column`.
 use Rattle.std.specs.Prelude.{◌≡◌, ◌≢◌, ◌==◌, ◌&&◌, ◌||◌, ◌⊎◌, ◌+◌, ◌-◌, ◌^◌, ◌<◌, ◌≤◌, ℕ, Bool, true, false, not}
 use Rattle.std.specs.Prelude.{List, [], ◌∷◌, ◌++◌, None, Option, Some, chars, codes, decimal, length, string_bytes}
 use Rattle.std.specs.Prelude.{is_some, unwrap_or}
@@ -16,29 +16,29 @@ use Rattle.fixed_command.specs.declared.field.Empty.{Empty}
 use Rattle.fixed_command.specs.declared.field.Empty.TheVariants.{Kept, Refused, Zero}
 use Rattle.fixed_command.specs.declared.field.FieldForm.{FieldForm}
 
--- a delimiter: the byte itself, but a quote and an end of a line, or a tab by its name
+-- a delimiter: one byte other than a quote and a line end, or a tab by its name
 abbrev pub IsDelimiterWord : List ℕ → ℕ → Type 0
 IsDelimiterWord word byte = ((word ≡ byte ∷ []) × (byte ≢ 34) × (byte ≢ 13) × (byte ≢ 10))
     ⊎ ((byte ≡ 9) × ((word ≡ codes "tab") ⊎ (word ≡ 92 ∷ 116 ∷ [])))
 
--- a byte that no numeral has, or a point: no letter, digit, sign or `@`
+-- whether a byte is one that no numeral has, or a point: not a letter, digit, sign or `@`
 abbrev pub is_separator : ℕ → Bool
 is_separator byte = not (is_ascii_alphanumeric byte) && not (byte == 43 || byte == 45 || byte == 64)
 
--- what comes before a fraction: one such byte, and no blank
+-- the decimal separator: one such byte, but not a blank
 pub record IsDecimalWord (word : List ℕ) (byte : ℕ) : Type 0 where
   pub text : word ≡ byte ∷ []
   pub separator : is_separator byte ≡ true
   pub no_blank : is_ascii_whitespace byte ≡ false
 
--- what separates thousands: one character of such bytes, and not what comes before a fraction
+-- the thousands separator: one character of such bytes, other than the decimal separator
 pub record IsThousandsWord (decimal : ℕ) (word : List ℕ) : Type 0 where
   pub one : (length (chars word) == 1) ≡ true
   pub separators : list_all is_separator word ≡ true
   pub other : list_any (λ byte. byte == decimal) word ≡ false
 
--- the bytes that separate thousands, between groups or anywhere: those of the one word or the other, and none without a
--- word; not both
+-- the thousands separator, between groups (the first value) or anywhere (the second); none without a value; both values
+-- are invalid
 abbrev pub IsThousandsAsked : ℕ → Option (List ℕ) → Option (List ℕ) → List ℕ → Bool → Type 0
 IsThousandsAsked decimal None None bytes groups = (bytes ≡ []) × (groups ≡ false)
 IsThousandsAsked decimal (Some word) None bytes groups = (bytes ≡ word) × IsThousandsWord decimal word × (groups ≡ true)
@@ -46,18 +46,18 @@ IsThousandsAsked decimal None (Some word) bytes groups = (bytes ≡ word) × IsT
     × (groups ≡ false)
 IsThousandsAsked decimal (Some word) (Some other) bytes groups = ⊥
 
--- what comes before the fraction of an answer: the byte of its own word, or else that of fields
+-- the decimal separator of an answer: the byte of its own value, else that of the fields
 abbrev pub IsMarkAsked : Option (List ℕ) → Option (List ℕ) → ℕ → Type 0
 IsMarkAsked (Some word) decimal byte = IsDecimalWord word byte
 IsMarkAsked None decimal byte = IsDecimalWord (unwrap_or decimal (codes ".")) byte
 
--- the word of what becomes of an empty field
+-- the value for each treatment of empty fields
 abbrev pub empty_text : Empty → List ℕ
 empty_text Refused = codes "fault"
 empty_text Kept = codes "keep"
 empty_text Zero = codes "0"
 
--- how a field spells a numeral
+-- how fields spell numerals
 pub record IsFormAsked (given : Given) (form : FieldForm) : Type 0 where
   pub trimmed : form.is_trimmed ≡ has_flag given (codes "trim")
   pub decimal : IsDecimalWord (unwrap_or (value_of given (codes "decimal")) (codes ".")) form.decimal
@@ -72,36 +72,36 @@ pub record IsOneWord (word : List ℕ) (range : Range) : Type 0 where
   pub fits : range.to + 1 < 2 ^ 64
   pub text : word ≡ decimal (range.to + 1)
 
--- the first and the last of a range, by their numbers
+-- the first and the last column of a range, by their numbers
 pub record IsSpan (first last : List ℕ) (range : Range) : Type 0 where
   pub ordered : range.from ≤ range.to
   pub fits : range.to + 1 < 2 ^ 64
   pub first_is : first ≡ decimal (range.from + 1)
   pub last_is : last ≡ decimal (range.to + 1)
 
--- one column, or a range with a hyphen between its first and its last
+-- one column, or the first and the last of a range with a hyphen between them
 abbrev pub IsRangeWord : List ℕ → Range → Type 0
 IsRangeWord word range = IsOneWord word range
     ⊎ ((first : List ℕ) × (last : List ℕ) × (word ≡ first ++ 45 ∷ last) × IsSpan first last range)
 
--- a column of this name, or else this range, if there is one
+-- a column of this name or, if no column has it, this range, if any
 abbrev pub IsByName : List ℕ → Option Range → Column → Type 0
 IsByName word range (Named name or) = (string_bytes name ≡ word) × (or ≡ range)
 IsByName word range (At at) = ⊥
 
--- the range that a word is, by one of the two, if it is one
+-- the range that the word is by `Is`, if it is one
 abbrev pub IsRangeIf : (List ℕ → Range → Type 0) → List ℕ → Option Range → Type 0
 IsRangeIf Is word None = (range : Range) → Is word range → ⊥
 IsRangeIf Is word (Some range) = Is word range
 
--- a column: where a word may be a name, that name and the range that it is if no column has the name; else its range
+-- a column: if operands may be names, the name with the range that it is if no column has the name; else the range
 abbrev pub IsColumnWord : (List ℕ → Range → Type 0) → Bool → List ℕ → Column → Type 0
 IsColumnWord Is true word (Named name range) = (string_bytes name ≡ word) × IsRangeIf Is word range
 IsColumnWord Is true word (At range) = ⊥
 IsColumnWord Is false word (Named name range) = ⊥
 IsColumnWord Is false word (At range) = Is word range
 
--- the columns of a list of words
+-- the columns of a list of operands
 abbrev pub AreColumnWords : Bool → List (List ℕ) → List Column → Type 0
 AreColumnWords header [] [] = Unit {0}
 AreColumnWords header [] (column ∷ columns) = ⊥
@@ -109,13 +109,14 @@ AreColumnWords header (word ∷ words) [] = ⊥
 AreColumnWords header (word ∷ words) (column ∷ columns) = IsColumnWord IsRangeWord header word column
     × AreColumnWords header words columns
 
--- the columns of a word: with a new column one, whose name has no comma; else those of its parts between commas
+-- the columns of an operand: only one with a new column, and then a name has no comma; else those of its parts between
+-- commas
 abbrev pub AreColumnsOf : Bool → Bool → List ℕ → List Column → Type 0
 AreColumnsOf true header word columns = (column : Column) × (columns ≡ column ∷ [])
     × IsColumnWord IsOneWord (header && not (list_any (λ b. b == 44) word)) word column
 AreColumnsOf false header word columns = AreColumnWords header (slice_split (λ b. b == 44) word) columns
 
--- the columns that are asked for, and the place of the next word: with `--all` every one, else those of the first word
+-- the requested columns, and the index of the next operand: every column with `--all`, else those of the first operand
 abbrev pub AreColumnsBy : Bool → Option (List ℕ) → Bool → Bool → List Column → ℕ → Type 0
 AreColumnsBy true first into header columns next = (columns ≡ At (record { from = 0; to = 2 ^ 64 - 1 }) ∷ [])
     × (next ≡ 0)
@@ -126,15 +127,10 @@ abbrev pub AreColumnsAsked : Given → List Column → ℕ → Type 0
 AreColumnsAsked given = AreColumnsBy (has_flag given (codes "all")) (word_at given 0)
     (is_some (value_of given (codes "into"))) (has_flag given (codes "header"))
 
--- where the answers go: into a new column of a name of at most 1024 bytes, which is one, or to their fields
+-- where the answers go: to their fields or, without `--all`, into a new column whose name has at most 1024 bytes
 abbrev pub IsDestinationBy : Bool → Option (List ℕ) → Destination → Type 0
 IsDestinationBy all None destination = destination ≡ InPlace
 IsDestinationBy all (Some name) destination = (destination ≡ NewColumn name) × (length name ≤ 1024) × (all ≡ false)
 
 abbrev pub IsDestinationAsked : Given → Destination → Type 0
 IsDestinationAsked given = IsDestinationBy (has_flag given (codes "all")) (value_of given (codes "into"))
-
--- how many lines come before the records
-pub record IsSkipWord (word : List ℕ) (count : ℕ) : Type 0 where
-  pub fits : count < 2 ^ 64
-  pub text : word ≡ decimal count

@@ -1,4 +1,4 @@
--- What the words of `fixed constants` ask for.
+-- The meaning of the operands and options of `fixed constants`.
 use Rattle.std.specs.Prelude.{◌≡◌, ◌⊎◌, ℕ, Bool, true, false, List, [], None, Option, Some, codes}
 use Rattle.command_line.specs.Words.{value_of}
 use Rattle.command_line.specs.declared.given.Given.{Given}
@@ -16,16 +16,16 @@ use Rattle.fixed_constants.specs.declared.form.Form.{Form}
 use Rattle.fixed_constants.specs.declared.form.Form.TheVariants.{Canonical}
 use Rattle.fixed_numeral.specs.declared.radix.Radix.{Radix}
 use Rattle.fixed_numeral.specs.declared.radix.Radix.TheVariants.{Dec}
-use Rattle.fixed_respell.specs.FormatNames.{IsFormatName}
+use Rattle.fixed_names.specs.Names.{IsName}
 use Rattle.fixed_respell.specs.Words.{mode_text, policy_text, radix_text}
 
--- the form of the literals and the place of the first file: a first word that is a language is no file
+-- the form of the literals and the index of the first file: a first operand that names a language is not a file
 abbrev pub IsFormAsked : Option (List ℕ) → Form → ℕ → Type 0
 IsFormAsked None form files = (form ≡ Canonical) × (files ≡ 0)
 IsFormAsked (Some word) form files = (NamesLanguage word form × (files ≡ 1))
     ⊎ (((other : Form) → NamesLanguage word other → ⊥) × (form ≡ Canonical) × (files ≡ 0))
 
--- a word names what a list is written as; a guard is asked for by an option
+-- the operand names the form of a list; a guard has an option of its own
 abbrev pub IsArrayWord : List ℕ → ArrayForm → Type 0
 IsArrayWord word C = word ≡ codes "array-c"
 IsArrayWord word GuardedC = ⊥
@@ -39,12 +39,12 @@ abbrev pub IsArrayAsked : Option (List ℕ) → ArrayForm → Type 0
 IsArrayAsked None form = ⊥
 IsArrayAsked (Some word) form = IsArrayWord word form
 
--- the guard of a header, and none where no word asks for one
+-- the guard of a header, or none without a value
 abbrev pub IsGuardAsked : Bool → Option (List ℕ) → List ℕ → Type 0
 IsGuardAsked header None guard = guard ≡ []
 IsGuardAsked header (Some word) guard = (header ≡ true) × IsGuard word × (guard ≡ word)
 
--- a list of this form is the file of a memory
+-- whether a list of this form is a memory file
 abbrev pub is_file : ArrayForm → Bool
 is_file C = false
 is_file GuardedC = false
@@ -54,7 +54,7 @@ is_file Readmemh = true
 is_file Coe = true
 is_file Mif = true
 
--- the name of a list in a header with this guard: a file has none, and any other has one
+-- the name of a list in a header with this guard: a memory file has none, and any other list has one
 abbrev pub IsNameBy : Bool → ArrayForm → List ℕ → Option (List ℕ) → List ℕ → Type 0
 IsNameBy true form guard None name = name ≡ []
 IsNameBy true form guard (Some word) name = ⊥
@@ -64,9 +64,35 @@ IsNameBy false form guard (Some word) name = IsArrayName form guard word × (nam
 abbrev pub IsNameAsked : ArrayForm → List ℕ → Option (List ℕ) → List ℕ → Type 0
 IsNameAsked form = IsNameBy (is_file form) form
 
--- how the numerals of a list are read, into the format of a word
+-- how the numerals of a list are read, into the format that the operand names
 pub record IsNumeralsAsked (given : Given) (word : List ℕ) (numerals : Numerals) : Type 0 where
   pub radix : IsNamed Radix radix_text Dec (value_of given (codes "radix")) numerals.radix
-  pub format : IsFormatName word numerals.format
+  pub format : IsName word numerals.format
   pub policy : IsNamed Policy policy_text Checked (value_of given (codes "policy")) numerals.policy
   pub mode : IsNamed ReadMode mode_text NearestEven (value_of given (codes "mode")) numerals.mode
+
+-- no option is given that has a meaning only for numerals
+pub record HasNoNumeralOption (given : Given) : Type 0 where
+  pub decimal : value_of given (codes "decimal") ≡ None
+  pub radix : value_of given (codes "radix") ≡ None
+  pub policy : value_of given (codes "policy") ≡ None
+  pub mode : value_of given (codes "mode") ≡ None
+
+-- no option is given that has a meaning only for lists
+pub record HasNoListOption (given : Given) : Type 0 where
+  pub numerals : value_of given (codes "numerals") ≡ None
+  pub name : value_of given (codes "name") ≡ None
+  pub decimal : value_of given (codes "decimal") ≡ None
+  pub radix : value_of given (codes "radix") ≡ None
+  pub policy : value_of given (codes "policy") ≡ None
+  pub mode : value_of given (codes "mode") ≡ None
+
+-- whether the form is an array of C
+abbrev pub is_c : ArrayForm → Bool
+is_c C = true
+is_c GuardedC = false
+is_c Rust = false
+is_c Vhdl = false
+is_c Readmemh = false
+is_c Coe = false
+is_c Mif = false

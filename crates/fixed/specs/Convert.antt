@@ -1,6 +1,6 @@
--- What the words of `fixed convert` ask for.
-use Rattle.std.specs.Prelude.{ℕ, codes}
-use Rattle.command_line.specs.Words.{keyword_at, value_of, word_at}
+-- The meaning of the operands and options of `fixed convert`.
+use Rattle.std.specs.Prelude.{◌≡◌, ◌&&◌, ℕ, Bool, None, codes, is_none, is_some, nat_lt}
+use Rattle.command_line.specs.Words.{has_flag, keyword_at, value_of, word_at}
 use Rattle.command_line.specs.declared.given.Given.{Given}
 use Rattle.fixed_bits.specs.declared.format.Policy.{Policy}
 use Rattle.fixed_bits.specs.declared.format.Policy.TheVariants.{Checked}
@@ -13,11 +13,15 @@ use Rattle.fixed_command.specs.declared.spelling.Spelling.TheVariants.{Numeral}
 use Rattle.fixed_numeral.specs.declared.radix.Radix.{Radix}
 use Rattle.fixed_numeral.specs.declared.radix.Radix.TheVariants.{Dec}
 use Rattle.fixed_respell.specs.Words.{mode_text, policy_text, radix_text}
+use Rattle.fixed_words.specs.declared.rule.WordRule.{WordRule}
 use Rattle.line_engine.specs.Memory.{next_count}
 use Rattle.fixed.specs.Lines.{IsFormatAsked, IsTargetAsked}
 use Rattle.fixed.specs.Settings.{IsPrintAsked}
+use Rattle.fixed.specs.Words.{IsWordRuleAsked}
+use Rattle.fixed.specs.declared.inputs.Job.{Job}
+use Rattle.fixed.specs.declared.inputs.Job.TheVariants as job
 
--- the words from a place on and the options name this conversion, and the place of the first file
+-- the operands from index `place` on and the options request this conversion; `files` is the index of the first file
 pub record IsConversionAsked (given : Given) (place : ℕ) (s : Settings) (files : ℕ) : Type 0 where
   pub source : IsFormatAsked (word_at given place) s.source
   pub target : IsTargetAsked (keyword_at given (next_count place)) s.source (next_count place) s.target files
@@ -28,3 +32,22 @@ pub record IsConversionAsked (given : Given) (place : ℕ) (s : Settings) (files
   pub target_mode : IsNamed ReadMode mode_text Floor (value_of given (codes "target-mode")) s.target_mode
   pub print : IsPrintAsked (value_of given (codes "print")) (value_of given (codes "places"))
       (value_of given (codes "places-mode")) s.print
+
+-- no option is given that has a meaning only for words
+pub record HasNoWordOption (given : Given) : Type 0 where
+  pub separators : value_of given (codes "separators") ≡ None
+  pub refused : value_of given (codes "refused") ≡ None
+  pub keep : value_of given (codes "keep") ≡ None
+
+-- words are converted where they stand; separators stay, so there are no comments
+pub record IsWordsAsked (given : Given) (s : Settings) (asked : Job) : Type 0 where
+  pub comments : value_of given (codes "comments") ≡ None
+  pub words : WordRule
+  pub are_words : IsWordRuleAsked given words
+  pub settings : words.rule ≡ s
+  pub job_is : asked ≡ job.Words words (has_flag given (codes "report"))
+
+-- whether a target and a mode are given, and no mode for the target: then the move rounds down
+abbrev pub lacks_target_mode : Given → ℕ → ℕ → Bool
+lacks_target_mode given place files = (nat_lt (next_count place) files
+    && is_some (value_of given (codes "mode"))) && is_none (value_of given (codes "target-mode"))

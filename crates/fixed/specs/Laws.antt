@@ -1,5 +1,5 @@
--- What words ask for is one thing at most.
-use Rattle.std.specs.Prelude.{◌≡◌, ℕ, Bool, List, [], ◌∷◌, Option, string_bytes}
+-- Operands and options have at most one meaning.
+use Rattle.std.specs.Prelude.{◌≡◌, ◌≤◌, ℕ, Bool, List, [], ◌∷◌, Option, string_bytes}
 use Rattle.column_engine.specs.declared.columns.Column.{Column}
 use Rattle.column_engine.specs.declared.columns.Column.TheVariants.{At, Named}
 use Rattle.column_engine.specs.declared.columns.Destination.{Destination}
@@ -12,24 +12,25 @@ use Rattle.fixed_command.specs.Layout.{LineLayout}
 use Rattle.fixed_command.specs.declared.field.FieldForm.{FieldForm}
 use Rattle.fixed_command.specs.declared.print.Print.{Print}
 use Rattle.fixed_constants.specs.declared.form.Form.{Form}
+use Rattle.fixed_fit.specs.declared.question.Fractions.{Fractions}
 use Rattle.fixed_numeral.specs.declared.radix.Radix.{Radix}
 use Rattle.fixed_pack.specs.declared.endian.Endian.{Endian}
 use Rattle.fixed_show.specs.declared.parts.Part.{Part}
 use Rattle.fixed_words.specs.declared.rule.WordRule.{WordRule}
-use Rattle.fixed.specs.Columns.{AreColumnsAsked, IsDelimiterWord, IsDestinationAsked, IsFormAsked}
-use Rattle.fixed.specs.Columns.{IsRangeWord, IsSkipWord}
+use Rattle.fixed.specs.Columns.{AreColumnsAsked, IsDelimiterWord, IsDestinationAsked, IsFormAsked, IsRangeWord}
 use Rattle.fixed.specs.Constants.{IsArrayAsked, IsFormAsked as IsConstantsAsked, IsGuardAsked, IsNameAsked}
 use Rattle.fixed.specs.Constants.{IsNumeralsAsked}
-use Rattle.fixed.specs.Fit.{IsErrorAsked}
+use Rattle.fixed.specs.Fit.{IsErrorAsked, IsFractionsAsked}
 use Rattle.fixed.specs.Lines.{IsFormatAsked, IsKindAsked, IsLayoutAsked, IsPartAsked, IsTargetAsked}
-use Rattle.fixed.specs.Settings.{IsPrintAsked, endian_text}
+use Rattle.fixed.specs.Settings.{IsCountWord, IsExcerptAsked, IsLimitAsked, IsPrintAsked, endian_text}
 use Rattle.fixed.specs.Words.{IsWordRuleAsked}
+use Rattle.fixed.specs.declared.commands.unpack_words.Excerpt.{Excerpt}
 
--- at most one is such
+-- at most one element has the property
 abbrev pub IsOne : (A : Type 0) → (A → Type 0) → Type 0
 IsOne A Is = (a b : A) → Is a → Is b → a ≡ b
 
--- at most one has this word
+-- distinct elements have distinct words
 abbrev pub AreApart : (A : Type 0) → (A → List ℕ) → Type 0
 AreApart A word = (a b : A) → word a ≡ word b → a ≡ b
 
@@ -55,23 +56,23 @@ AreSameColumns [] (b ∷ bs) = ⊥
 AreSameColumns (a ∷ us) [] = ⊥
 AreSameColumns (a ∷ us) (b ∷ bs) = IsSameColumn a b × AreSameColumns us bs
 
--- the same separators, token, and refused words that stay
+-- the same separators, the same token, and the same refused words that stay
 pub record IsSameWordRule (a b : WordRule) : Type 0 where
   pub separators : a.separators.now ≡ b.separators.now
   pub token : a.token ≡ b.token
   pub leaves : a.leaves ≡ b.leaves
 
--- of the words of `fixed column`
+-- the laws for `fixed column`
 pub record ColumnsAreTheOnes : Type 0 where
   pub delimiter : (word : List ℕ) → IsOne ℕ (IsDelimiterWord word)
-  pub skip : (word : List ℕ) → IsOne ℕ (IsSkipWord word)
+  pub skip : (word : List ℕ) → IsOne ℕ (IsCountWord word)
   pub form : (given : Given) (a b : FieldForm) → IsFormAsked given a → IsFormAsked given b → IsSameForm a b
   pub range : (word : List ℕ) → IsOne Range (IsRangeWord word)
   pub columns : (given : Given) (us bs : List Column) (m n : ℕ) → AreColumnsAsked given us m
       → AreColumnsAsked given bs n → AreSameColumns us bs × (m ≡ n)
   pub destination : (given : Given) → IsOne Destination (IsDestinationAsked given)
 
--- of `fixed constants`
+-- the laws for `fixed constants`
 pub record ConstantsAreTheOnes : Type 0 where
   pub form : (word : Option (List ℕ)) (a b : Form) (m n : ℕ) → IsConstantsAsked word a m → IsConstantsAsked word b n
       → (a ≡ b) × (m ≡ n)
@@ -81,7 +82,7 @@ pub record ConstantsAreTheOnes : Type 0 where
       → IsOne (List ℕ) (IsNameAsked form guard word)
   pub numerals : (given : Given) (word : List ℕ) → IsOne Numerals (IsNumeralsAsked given word)
 
--- of formats, targets, parts of words, layouts of lines, words of texts, and widths
+-- the laws for formats, targets, parts of words, layouts of lines, words of texts, and widths
 pub record LinesAreTheOnes : Type 0 where
   pub format : (word : Option (List ℕ)) → IsOne FormatParts (IsFormatAsked word)
   pub target : (word : Option (List ℕ)) (source : FormatParts) (place : ℕ) (a b : FormatParts) (m n : ℕ)
@@ -91,8 +92,12 @@ pub record LinesAreTheOnes : Type 0 where
   pub words : (given : Given) (a b : WordRule) → IsWordRuleAsked given a → IsWordRuleAsked given b → IsSameWordRule a b
   pub kind : (signed bounded : Bool) (word : Option (List ℕ)) → IsOne FormatParts (IsKindAsked signed bounded word)
 
--- of what is written, an order of bytes, and an error
+-- the laws for the printed part, an order of bytes, the words that are read, a limit, an error, and fraction lengths
 pub record SettingsAreTheOnes : Type 0 where
   pub print : (part places mode : Option (List ℕ)) → IsOne Print (IsPrintAsked part places mode)
   pub endian : AreApart Endian endian_text
+  pub excerpt : (given : Given) → IsOne Excerpt (IsExcerptAsked given)
+  pub limit : (word : Option (List ℕ)) → IsOne (Option ℕ) (IsLimitAsked word)
   pub error : (radix : Radix) (word : Option (List ℕ)) → IsOne (Option (List ℕ)) (IsErrorAsked radix word)
+  pub fractions : (width : ℕ) (word : Option (List ℕ)) (beyond : Bool)
+      → width ≤ 64 → IsOne Fractions (IsFractionsAsked width word beyond)

@@ -1,4 +1,4 @@
--- What the options of `fixed convert --words` ask for.
+-- The meaning of the options of `fixed convert --words`.
 use Rattle.std.specs.Prelude.{◌≡◌, ◌==◌, ◌&&◌, ◌||◌, ◌<◌, ◌≤◌, ℕ, Bool, true, false, not, List, None, Option, Some}
 use Rattle.std.specs.Prelude.{codes, length, nat_lt, unwrap_or}
 use Rattle.std.specs.Char.{is_ascii_alphanumeric}
@@ -10,21 +10,21 @@ use Rattle.fixed_words.specs.declared.rule.Leaving.{Leaving}
 use Rattle.fixed_words.specs.declared.rule.Leaving.TheVariants.{Everything, NoNumerals, Nothing}
 use Rattle.fixed_words.specs.declared.rule.WordRule.{WordRule}
 
--- a byte that may separate words: ASCII, and none that a numeral has
+-- whether a byte may separate words: ASCII, and not one that a numeral has
 abbrev pub may_separate : ℕ → Bool
 may_separate byte = (nat_lt byte 128 && not (is_ascii_alphanumeric byte))
     && not (byte == 43 || byte == 45 || byte == 46 || byte == 64)
 
--- the bytes that separate words, beside blanks: a comma where there is no value
+-- the bytes that separate words, besides blanks: a comma without a value
 pub record AreSeparatorsAsked (value : Option (List ℕ)) (bytes : List ℕ) : Type 0 where
   pub text : bytes ≡ unwrap_or value (codes ",")
   pub may : list_all may_separate bytes ≡ true
 
--- a word has a byte that separates words
+-- whether a word contains a byte that separates words
 abbrev pub has_separator : List ℕ → List ℕ → Bool
 has_separator separators word = list_any (is_separator separators) word
 
--- what is written for a refused word: one word of at most 64 bytes, `error` where there is no value
+-- the token written for a refused word: one word of at most 64 bytes, `error` without a value
 pub record IsTokenAsked (separators : List ℕ) (value : Option (List ℕ)) (token : List ℕ) : Type 0 where
   pub text : token ≡ unwrap_or value (codes "error")
   pub some : 0 < length token

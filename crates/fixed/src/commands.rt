@@ -1,7 +1,7 @@
-//! The commands, one file each: what its help shows, and what its words ask for.
+//! The commands, one file each: its help page and what its arguments request.
 //!
-//! The further programs keep their words as keywords: `least 16`, `constants rust`, `sort limit 7`. A keyword stands
-//! before the files and before `--`. The guard of a header is an option, so that no file is taken for one.
+//! The other programs keep their operands as keywords: `least 16`, `constants rust`, `sort limit 7`. A keyword stands
+//! before the files and before `--`. The guard of a header is an option, so that no file is taken for a guard.
 
 pub mod amounts;
 pub mod bits;
@@ -10,11 +10,13 @@ pub mod column_report;
 pub mod column_words;
 pub mod constants;
 pub mod convert;
+pub mod convert_errors;
 pub mod convert_words;
 pub mod enclose;
 pub mod fit;
 pub mod floats;
 pub mod format;
+pub mod json;
 pub mod least;
 pub mod lines;
 pub mod modes;
@@ -23,6 +25,7 @@ pub mod repack;
 pub mod show;
 pub mod sort;
 pub mod unpack;
+pub mod unpack_words;
 
 use command_line::given::{Asked, Given};
 use command_line::page::Page;
@@ -31,12 +34,13 @@ use fixed_steps::Steps;
 use line_engine::Status;
 use std::sync::ledger::Ledger;
 
-/// The pages of the commands, in the order of the help. Each is made by a function of its own: as parts of one constant
-/// they are more than the prover reads at once.
-pub fn pages() -> [Page; 15] {
+/// Returns the pages of the commands, in the order of the help. Each has its own function: in one constant they are
+/// more than the prover reads at once.
+pub fn pages() -> [Page; 16] {
     [
         convert::page(),
         column::page(),
+        json::page(),
         bits::page(),
         show::page(),
         format::page(),
@@ -53,7 +57,7 @@ pub fn pages() -> [Page; 15] {
     ]
 }
 
-/// The command for people, with these pages.
+/// Returns the command for people, with these pages.
 pub fn program(pages: &[Page]) -> Program<'_> {
     Program {
         name: "fixed",
@@ -80,6 +84,7 @@ impl<L: Ledger> Commands<L> for AllCommands {
         match name {
             "convert" => convert::run(rt, given, steps),
             "column" => column::run(rt, given, steps),
+            "json" => json::run(rt, given, steps),
             "bits" => bits::run(rt, given, steps),
             "show" => show::run(rt, given, steps),
             "format" => format::run(rt, given, steps),

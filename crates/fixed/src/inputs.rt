@@ -1,77 +1,88 @@
-//! What is done with each input, one after another.
+//! Runs a job over each input, one after another.
+
+ghost use Rattle.std.specs.Prelude.{◌≡◌, ◌≤◌, length};
+ghost use Rattle.fixed.specs.Ends.{is_last};
 
 use crate::commands::column_report::{self, Known};
-use crate::commands::{amounts, fit, floats, pack, repack, unpack};
+use crate::commands::{amounts, convert, fit, floats, json, pack, repack, unpack};
+use crate::explained::{
+    NO_OFFERS, TRIM_OFFERS, enclosure_rule, line_rule, list_rule, push_explanation,
+    push_question_explanation,
+};
+use crate::output::open_output;
+use crate::settings::limit_asked;
 use column_engine::ColumnWatch;
-use command_line::device::{Failure, Output, Unmarked, Writer};
+use command_line::device::{Failure, Limited, Output, Unmarked, Writer};
+use command_line::given::{Asked, Given};
 use command_line::report::{Report, push_words, report_end};
 use fixed_amounts::AmountSettings;
 use fixed_command::{
-    AmountLines, ColumnConversion, ConvertRule, FieldReport, MAX_TALLY, Place, RefusedLine, Tally,
-    Task, Watch, convert_column, error_report, explanation, greater_end, place_name, run_task,
-    tally_text,
+    AmountLines, ColumnConversion, ConvertRule, FieldReport, Limit, MAX_TALLY, Place, RefusedLine,
+    Spelling, Tally, Task, Watch, bytes_within, convert_column, error_report, greater_end,
+    place_name, run_task, tally_text, without_return,
 };
 use fixed_io::{StdSink, StdSource};
-use fixed_pack::{FloatWords, PackSettings, Repack, UnpackRule, WordFloats};
-use fixed_report::{ErrorReport, MAX_GREATEST};
+use fixed_numeral::{Radix, scan};
+use fixed_pack::{FloatWords, Repack};
+use fixed_report::{ErrorReport, Lost, MAX_GREATEST};
 use fixed_steps::Steps;
 use fixed_words::{WordRefusal, WordRule, convert_words};
 use line_engine::Status;
 use std::fs::File;
-use std::io::{Error, Read};
+use std::io::{Error, ErrorKind, Read};
 use std::sync::ledger::Ledger;
 
-/// How many characters of a refused line a report has.
+/// How many characters of a refused line a report shows.
 const MAX_TEXT: usize = 40;
 
-/// What is done with an input.
+/// What to do with an input.
 #[derive(Drop)]
 pub enum Job<'a> {
-    /// It is answered.
+    /// Run a task over it.
     Task(Task<'a>),
-    /// Each of its words is converted where it stands.
+    /// Convert each of its words in place.
     Words {
         /// How a word is converted.
         rule: WordRule<'a>,
         /// Whether there is a report.
         has_report: bool,
     },
-    /// Each of its lines says an amount.
+    /// Answer its lines, each of which spells an amount.
     Amounts(AmountLines),
-    /// Columns of it are converted.
+    /// Convert columns of it.
     Column {
-        /// How.
+        /// The conversion.
         conversion: ColumnConversion<'a, ConvertRule>,
         /// Whether there is a report.
         has_report: bool,
     },
-    /// Columns of it are converted into amounts.
+    /// Convert columns of it into amounts.
     AmountColumns(ColumnConversion<'a, AmountSettings>),
-    /// A format is found that its numerals fit.
+    /// Convert values of its lines, which are JSON.
+    Json(json::JsonJob<'a>),
+    /// Find a format that its numerals fit.
     Fit(fit::FitTask),
-    /// Its numerals are packed into words.
-    Pack(PackSettings),
-    /// Its floats are read into words.
+    /// Pack its lines into words.
+    Pack(pack::PackTask),
+    /// Read its floats into words.
     PackFloats {
-        /// How.
+        /// How a float is read.
         floats: FloatWords,
         /// Whether there is a report.
         has_report: bool,
     },
-    /// Its words are unpacked into lines.
-    Unpack(UnpackRule),
-    /// Its words are written as floats.
-    UnpackFloats(WordFloats),
-    /// Its words are written as words of another format.
+    /// Unpack words of it.
+    Unpack(unpack::Unpacking),
+    /// Write its words as words of another format.
     Repack {
-        /// How.
+        /// How a word is written.
         words: Repack,
         /// Whether there is a report.
         has_report: bool,
     },
 }
 
-/// A report of how many lines of an input were refused, and which was the first: its number, text and cause.
+/// Returns a report of how many lines of an input were refused, with the number, text and cause of the first.
 pub fn refusal_report(
     file: Option<&str>,
     count: u64,
@@ -91,8 +102,7 @@ pub fn refusal_report(
     report
 }
 
-/// Says on standard error how many lines of an input were refused, and which was the first, with its text and the
-/// cause.
+/// Reports on standard error how many lines of an input were refused, with the text and the cause of the first.
 fn report_refused<L: Ledger>(
     rt: &HostRuntime,
     task: &Task<'_>,
@@ -104,40 +114,82 @@ fn report_refused<L: Ledger>(
     if let Some(line) = &refusals.first {
         let (text, cause) = (line.text.as_bytes(), line.cause.as_bytes());
         let mut report = refusal_report(file, refusals.count, line.number, text, cause);
-        match task {
-            Task::Convert(rule) => {
-                let numeral = line.text.as_bytes();
-                push_explanation(&mut report, rule, line, (numeral, 0), steps);
-            }
-            Task::LaidOut(laid) | Task::Reported(laid) => {
-                let text = line.text.as_bytes();
-                let numeral = laid.layout.numeral_of(text);
-                let blanks = laid.layout.blanks_before(text);
-                push_explanation(&mut report, &laid.rule, line, (numeral, blanks), steps);
-            }
-            _ => (),
+        if !line.is_cut() {
+            push_line_explanation(&mut report, task, line, steps);
         }
         report.send(rt);
     }
 }
 
-/// Appends what more there is to say of a line that a conversion refuses, by its numeral and how many bytes of the
-/// line come before it; nothing of a line that is not kept whole.
-fn push_explanation<L: Ledger>(
+/// Appends an explanation of a line that a task refuses, which is kept whole.
+fn push_line_explanation<L: Ledger>(
     report: &mut Report,
-    rule: &ConvertRule,
+    task: &Task<'_>,
     line: &RefusedLine,
-    numeral: (&[u8], usize),
     steps: &mut Steps<L>,
 ) {
-    if line.is_cut() {
-        return;
+    let (text, cause) = (line.text.as_bytes(), line.cause.as_bytes());
+    match task {
+        Task::Convert(rule) => {
+            let numeral = (without_return(text), 0);
+            push_explanation(report, rule, convert::OFFERS, numeral, cause, steps);
+        }
+        Task::LaidOut(laid) | Task::Reported(laid) => {
+            let numeral = (
+                laid.layout.numeral_of(text),
+                laid.layout.blanks_before(text),
+            );
+            push_explanation(report, &laid.rule, convert::OFFERS, numeral, cause, steps);
+        }
+        Task::Errors(lines) => {
+            let s = &lines.settings;
+            let rule = ConvertRule::reading(Spelling::Numeral, s.radix, s.format, s.policy, s.mode);
+            let numeral = (
+                lines.layout.numeral_of(text),
+                lines.layout.blanks_before(text),
+            );
+            push_explanation(report, &rule, convert::OFFERS, numeral, cause, steps);
+        }
+        Task::Ask(_, question) => {
+            let word = (without_return(text), 0);
+            push_question_explanation(report, question, true, word, cause, steps);
+        }
+        Task::LaidOutAsk(_, question, layout) => {
+            let word = (layout.numeral_of(text), layout.blanks_before(text));
+            push_question_explanation(report, question, true, word, cause, steps);
+        }
+        Task::Least(least) => {
+            let rule = list_rule(least.radix);
+            push_explanation(report, &rule, TRIM_OFFERS, (text, 0), cause, steps);
+        }
+        Task::LaidOutLeast(least, layout) => {
+            let rule = list_rule(least.radix);
+            let numeral = (layout.numeral_of(text), layout.blanks_before(text));
+            push_explanation(report, &rule, TRIM_OFFERS, numeral, cause, steps);
+        }
+        Task::Lines => push_last_explanation(report, line_rule(text), text, cause, steps),
+        Task::Enclose if cause != b"overflow".as_slice() => {
+            push_last_explanation(report, enclosure_rule(text), text, cause, steps);
+        }
+        Task::Enclose | Task::Constants(_) | Task::Columns => (),
     }
-    let more = explanation(rule, numeral.0, numeral.1, line.cause.as_bytes(), steps);
-    report.bytes(more.as_bytes(), 640);
 }
 
-/// Says on standard error how the numerals of an input came through.
+/// Appends an explanation of a line whose last word is a numeral, if the words before it give the rule.
+fn push_last_explanation<L: Ledger>(
+    report: &mut Report,
+    found: Option<(ConvertRule, &[u8])>,
+    line: &[u8],
+    cause: &[u8],
+    steps: &mut Steps<L>,
+) {
+    if let Some((rule, numeral)) = found {
+        let before = line.len().saturating_sub(numeral.len());
+        push_explanation(report, &rule, NO_OFFERS, (numeral, before), cause, steps);
+    }
+}
+
+/// Reports the outcomes of the numerals of an input on standard error.
 pub fn report_tally(rt: &HostRuntime, file: Option<&str>, tally: &Tally, place: Place) {
     let text = tally_text(tally, place);
     let mut report = Report::of(file);
@@ -145,33 +197,36 @@ pub fn report_tally(rt: &HostRuntime, file: Option<&str>, tally: &Tally, place: 
     report.send(rt);
 }
 
-/// Says on standard error which numeral of an input has the greatest error, where one has an error: its place, the
-/// error and the same in ulps; or that memory was wanting for it.
+/// Reports on standard error which numeral of an input has the greatest error, if any has an error: its place after
+/// `name`, which names such places, the error and the same in ulps; or why that is not known.
 pub fn report_greatest<L: Ledger>(
     rt: &HostRuntime,
     file: Option<&str>,
-    errors: &Option<ErrorReport>,
-    place: Place,
+    errors: &ErrorReport,
+    name: &[u8],
     steps: &mut Steps<L>,
-) {
-    if let Some(errors) = errors {
-        let mut report = Report::of(file);
-        if errors.is_lost() {
-            report.text("greatest error: there is no memory for it");
-            report.send(rt);
-        } else if let Some(text) = errors.text(place_name(place).as_bytes(), steps) {
-            report.bytes(text.as_bytes(), MAX_GREATEST);
-            report.send(rt);
-        }
+)
+    requires name { length name.now ≤ 8 }
+{
+    let mut report = Report::of(file);
+    match errors.lost() {
+        Some(Lost::NoMemory) => report.text("greatest error: there is no memory for it"),
+        Some(Lost::TooLong) => report.text("greatest error: a numeral is too long for it"),
+        None => match errors.text(name, steps) {
+            Some(text) => report.bytes(text.as_bytes(), MAX_GREATEST),
+            None => return,
+        },
     }
+    report.send(rt);
 }
 
-/// Does a task with one input, and says on standard error why it did not end well. As each kind of job it is kept
-/// apart, so that its buffers take no room on the stack of another.
+/// Runs a task over one input, and reports on standard error why it did not end well. Like the function of each kind of
+/// job it is not inlined, so that its buffers take no room on the stack of another.
 #[inline(never)]
 fn run_task_on<R: Read + Drop, L: Ledger>(
     rt: &HostRuntime,
     task: &Task<'_>,
+    limit: &Option<Limit>,
     file: Option<&str>,
     reader: R,
     output: &mut Output,
@@ -184,29 +239,40 @@ fn run_task_on<R: Read + Drop, L: Ledger>(
         writer: output,
         failure: &failure,
     });
-    let status = run_task(rt.alloc(), task, &watch, &mut source, &mut sink, steps);
-    // Where a write failed, not all answers that were counted were taken.
+    let status = run_task(
+        rt.alloc(),
+        limit,
+        task,
+        &watch,
+        &mut source,
+        &mut sink,
+        steps,
+    );
+    // After a failed write, not all counted answers were written.
     if !is_last(status) {
         report_refused(rt, task, file, &watch, steps);
         if matches!(task, Task::Reported(_)) {
             report_tally(rt, file, &watch.tally(), Place::Line);
-            report_greatest(rt, file, &watch.errors(), Place::Line, steps);
+            if let Some(errors) = &watch.errors() {
+                report_greatest(rt, file, errors, place_name(Place::Line).as_bytes(), steps);
+            }
         }
     }
     report_end(rt, file, status, sink.lines(), &failure);
     status
 }
 
-/// A report, where it is asked for.
+/// Returns a report if it is requested.
 fn asked_report<'r>(report: &'r FieldReport<'r>, has_report: bool) -> Option<&'r FieldReport<'r>> {
     if has_report { Some(report) } else { None }
 }
 
-/// Converts columns of one input, and says on standard error why it did not end well.
+/// Converts columns of one input, and reports on standard error why it did not end well.
 #[inline(never)]
 fn run_column_on<R: Read + Drop, L: Ledger>(
     rt: &HostRuntime,
     conversion: &ColumnConversion<'_, ConvertRule>,
+    limit: &Option<Limit>,
     has_report: bool,
     file: Option<&str>,
     reader: R,
@@ -217,7 +283,8 @@ fn run_column_on<R: Read + Drop, L: Ledger>(
     let fields = FieldReport::new(&watch, error_report(rt.alloc(), conversion.rule.settings()));
     let report = asked_report(&fields, has_report);
     let failure = Failure::new(None);
-    let mut source = StdSource::new(reader);
+    let mut limited = Limited::new(reader, bytes_within(limit));
+    let mut source = StdSource::new(&mut limited);
     let writer = &mut *output;
     let mut sink = StdSink::new(Writer {
         writer,
@@ -237,12 +304,13 @@ fn run_column_on<R: Read + Drop, L: Ledger>(
         watch: &watch,
         report,
         end: &end,
+        is_exceeded: limited.is_exceeded(),
     };
     column_report::report_end(rt, file, &known, sink.lines(), &failure, steps);
-    end.status()
+    known.status()
 }
 
-/// A report of how many words of an input were refused, and which was the first, with its text and the cause.
+/// Returns a report of how many words of an input were refused, with the text and the cause of the first.
 fn word_report(file: Option<&str>, count: u64, word: &WordRefusal) -> Report {
     let mut report = Report::of(file);
     report.text("words refused: ");
@@ -258,11 +326,12 @@ fn word_report(file: Option<&str>, count: u64, word: &WordRefusal) -> Report {
     report
 }
 
-/// Converts the words of one input, and says on standard error why it did not end well.
+/// Converts the words of one input, and reports on standard error why it did not end well.
 #[inline(never)]
 fn run_words_on<R: Read + Drop, L: Ledger>(
     rt: &HostRuntime,
     rule: &WordRule<'_>,
+    limit: &Option<Limit>,
     has_report: bool,
     file: Option<&str>,
     reader: R,
@@ -275,112 +344,168 @@ fn run_words_on<R: Read + Drop, L: Ledger>(
         writer: output,
         failure: &failure,
     });
-    let end = convert_words(rt.alloc(), rule, has_report, &mut source, &mut sink, steps);
+    let end = convert_words(
+        rt.alloc(),
+        limit,
+        rule,
+        has_report,
+        &mut source,
+        &mut sink,
+        steps,
+    );
     if !is_last(end.status) {
         if let Some(word) = &end.first {
             let mut report = word_report(file, end.refused, word);
             let before = word.byte.saturating_sub(1) as usize;
-            push_explanation(
-                &mut report,
-                &rule.rule,
-                &word.line,
-                (word.line.text.as_bytes(), before),
-                steps,
-            );
+            let (text, cause) = (word.line.text.as_bytes(), word.line.cause.as_bytes());
+            if !word.line.is_cut() {
+                push_explanation(
+                    &mut report,
+                    &rule.rule,
+                    convert::OFFERS,
+                    (text, before),
+                    cause,
+                    steps,
+                );
+            }
             report.send(rt);
         }
         if has_report {
             report_tally(rt, file, &end.tally, Place::Line);
-            report_greatest(rt, file, &end.errors, Place::Line, steps);
+            if let Some(errors) = &end.errors {
+                report_greatest(rt, file, errors, place_name(Place::Line).as_bytes(), steps);
+            }
         }
     }
     report_end(rt, file, end.status, sink.lines(), &failure);
     end.status
 }
 
-/// Does a job with one input.
+/// Runs a job over one input.
 fn run_reader<R: Read + Drop, L: Ledger>(
     rt: &HostRuntime,
     job: &Job<'_>,
+    limit: &Option<Limit>,
     file: Option<&str>,
     reader: R,
     output: &mut Output,
     steps: &mut Steps<L>,
 ) -> Status {
     match job {
-        Job::Task(task) => run_task_on(rt, task, file, reader, output, steps),
+        Job::Task(task) => run_task_on(rt, task, limit, file, reader, output, steps),
         Job::Words { rule, has_report } => {
-            run_words_on(rt, rule, *has_report, file, reader, output, steps)
+            run_words_on(rt, rule, limit, *has_report, file, reader, output, steps)
         }
-        Job::Amounts(lines) => amounts::run_on(rt, lines, file, reader, output, steps),
+        Job::Amounts(lines) => amounts::run_on(rt, lines, limit, file, reader, output, steps),
         Job::Column {
             conversion,
             has_report,
-        } => run_column_on(rt, conversion, *has_report, file, reader, output, steps),
+        } => run_column_on(
+            rt,
+            conversion,
+            limit,
+            *has_report,
+            file,
+            reader,
+            output,
+            steps,
+        ),
         Job::AmountColumns(conversion) => {
-            amounts::run_columns_on(rt, conversion, file, reader, output, steps)
+            amounts::run_columns_on(rt, conversion, limit, file, reader, output, steps)
         }
+        Job::Json(job) => json::run_on(rt, job, file, reader, output, steps),
         Job::Fit(task) => {
             let mut source = StdSource::new(Unmarked::new(reader));
-            fit::run_on(rt, task, file, &mut source, steps)
+            fit::run_on(rt, task, limit, file, &mut source, output, steps)
         }
-        Job::Pack(settings) => pack::run_on(rt, settings, file, reader, steps),
+        Job::Pack(task) => pack::run_on(rt, task, limit, file, reader, output, steps),
         Job::PackFloats { floats, has_report } => {
-            floats::pack_on(rt, floats, *has_report, file, reader, steps)
+            floats::pack_on(rt, floats, limit, *has_report, file, reader, output, steps)
         }
-        Job::Unpack(rule) => unpack::run_on(rt, rule, file, reader, steps),
-        Job::UnpackFloats(words) => floats::unpack_on(rt, words, file, reader, steps),
+        Job::Unpack(unpacking) => unpack::run_on(rt, unpacking, limit, file, reader, output, steps),
         Job::Repack { words, has_report } => {
-            repack::run_on(rt, words, *has_report, file, reader, steps)
+            repack::run_on(rt, words, limit, *has_report, file, reader, output, steps)
         }
     }
 }
 
-/// Says on standard error why a file could not be opened.
-pub fn refuse_file(rt: &HostRuntime, file: &str, error: &Error) -> Status {
+/// Reports on standard error why a file could not be opened, and more.
+fn refuse_with(rt: &HostRuntime, file: &str, error: &Error, more: &[&str]) -> Status {
     let mut report = Report::of(Some(file));
     push_words(&mut report, rt.alloc(), error);
+    for text in more {
+        report.text(text);
+    }
     report.send(rt);
     Status::ReadFault
 }
 
-/// Does a job with a file, or with standard input where its name is `-`.
+/// Reports on standard error why a file could not be opened.
+pub fn refuse_file(rt: &HostRuntime, file: &str, error: &Error) -> Status {
+    refuse_with(rt, file, error, &[])
+}
+
+/// Reports on standard error why an input could not be opened. If there is no such file and its name is a numeral, the
+/// report names the command that shows it in the format.
+fn refuse_input<L: Ledger>(
+    rt: &HostRuntime,
+    format: &str,
+    file: &str,
+    error: &Error,
+    steps: &mut Steps<L>,
+) -> Status {
+    let is_missing = error.kind() == ErrorKind::NotFound && !format.is_empty();
+    if !is_missing || scan(file.as_bytes(), Radix::Dec, steps).is_err() {
+        return refuse_file(rt, file, error);
+    }
+    let more = [" (a numeral? 'fixed show ", format, " ", file, "')"];
+    refuse_with(rt, file, error, &more)
+}
+
+/// Runs a job over a file, or over standard input if its name is `-`.
 fn run_file<L: Ledger>(
     rt: &HostRuntime,
     job: &Job<'_>,
+    limit: &Option<Limit>,
+    format: &str,
     file: &str,
     output: &mut Output,
     steps: &mut Steps<L>,
 ) -> Status {
     if file == "-" {
-        return run_reader(rt, job, None, rt.stdin(), output, steps);
+        return run_reader(rt, job, limit, None, rt.stdin(), output, steps);
     }
     match File::open(rt, file) {
-        Ok(reader) => run_reader(rt, job, Some(file), reader, output, steps),
-        Err(error) => refuse_file(rt, file, &error),
+        Ok(reader) => run_reader(rt, job, limit, Some(file), reader, output, steps),
+        Err(error) => refuse_input(rt, format, file, &error, steps),
     }
 }
 
-/// Whether nothing more can be written after this end.
-pub fn is_last(status: Status) -> bool {
+/// Whether nothing more can be written after a run with this status.
+pub fn is_last(status: Status) -> bool
+    ensures { result ≡ is_last status }
+{
     matches!(status, Status::WriteFault | Status::NoMemory)
 }
 
-/// Does a job with each file in order, each an input of its own, and with standard input where there are none. It
-/// ends with the greatest code, and at once where a write failed or memory is wanting.
+/// Runs a job over each file in order, each as its own input within the limit, or over standard input if there are
+/// none. Returns the greatest code, and stops at once if a write failed or memory is missing. `format` is the operand
+/// that names the format of the numerals in the files, and is empty if there is none.
 pub fn run_inputs_to<L: Ledger>(
     rt: &HostRuntime,
     job: &Job<'_>,
+    limit: &Option<Limit>,
+    format: &str,
     files: &[&str],
     output: &mut Output,
     steps: &mut Steps<L>,
 ) -> Status {
     if files.is_empty() {
-        return run_file(rt, job, "-", output, steps);
+        return run_file(rt, job, limit, format, "-", output, steps);
     }
     let mut end = Status::Done;
     for file in files {
-        let status = run_file(rt, job, file, output, steps);
+        let status = run_file(rt, job, limit, format, file, output, steps);
         end = greater_end(end, status);
         if is_last(status) {
             return end;
@@ -389,12 +514,35 @@ pub fn run_inputs_to<L: Ledger>(
     end
 }
 
-/// Does a job with each file, and writes to standard output.
-pub fn run_inputs<L: Ledger>(
+/// Runs a job over the files from an index on, each within the limit, and writes to the output that the option names.
+/// `format` is the operand that names the format of the numerals in the files, and is empty if there is none.
+pub fn run_inputs_within<'a, L: Ledger>(
     rt: &HostRuntime,
     job: &Job<'_>,
-    files: &[&str],
+    limit: &Option<Limit>,
+    format: &str,
+    given: &Given<'_, 'a>,
+    place: usize,
     steps: &mut Steps<L>,
-) -> Status {
-    run_inputs_to(rt, job, files, &mut Output::Standard(rt.stdout()), steps)
+) -> Asked<'a, Status> {
+    let files = given.from(place);
+    match open_output(rt, given, files)? {
+        Ok(mut output) => Ok(run_inputs_to(rt, job, limit, format, files, &mut output, steps)),
+        Err(status) => Ok(status),
+    }
+}
+
+/// Runs a job over the files from an index on, each within the limit that the option names, if any.
+pub fn run_inputs<'a, L: Ledger>(
+    rt: &HostRuntime,
+    job: &Job<'_>,
+    format: &str,
+    given: &Given<'_, 'a>,
+    place: usize,
+    steps: &mut Steps<L>,
+) -> Asked<'a, Status> {
+    match limit_asked(given) {
+        Ok(limit) => run_inputs_within(rt, job, &limit, format, given, place, steps),
+        Err(refusal) => Err(refusal),
+    }
 }

@@ -1,4 +1,4 @@
-//! The options that several commands have.
+//! The options of more than one command.
 
 use command_line::page::{Operand, Row};
 
@@ -42,7 +42,7 @@ pub const POLICY: Row = Row {
     help: "default checked; saturating, wrapping, symmetric",
 };
 
-/// The words of the rounding modes.
+/// The names of the rounding modes.
 const MODES: &[&str] = &[
     "nearest",
     "ties-away",
@@ -83,8 +83,8 @@ pub const PACK_FROM: Row = Row {
     name: "from",
     letter: None,
     value: "WHAT",
-    choices: &["text", "f64", "f32"],
-    help: "text (default): numerals; f64, f32: raw floats",
+    choices: &["text", "bits", "f64", "f32"],
+    help: "text (default), bits: words; f64, f32: raw floats",
 };
 
 pub const UNPACK_TO: Row = Row {
@@ -101,6 +101,16 @@ pub const PRINT: Row = Row {
     value: "PART",
     choices: &["text", "bits", "hex", "readmemh", "value", "all"],
     help: "text (default), bits, hex, readmemh, value, all",
+};
+
+pub const PRINT_OR_ERROR: Row = Row {
+    name: "print",
+    letter: None,
+    value: "PART",
+    choices: &[
+        "text", "bits", "hex", "readmemh", "value", "all", "error", "ulps",
+    ],
+    help: "text, bits, hex, readmemh, value, all, error or ulps",
 };
 
 pub const PLACES: Row = Row {
@@ -159,6 +169,24 @@ pub const COMMENTS: Row = Row {
     help: "A line that begins with PREFIX gives an empty one",
 };
 
+/// `SKIP_BLANK` of a command that does not answer each line.
+pub const PASS_BLANK: Row = Row {
+    name: "skip-blank",
+    letter: None,
+    value: "",
+    choices: &[],
+    help: "Lines of blanks are passed over",
+};
+
+/// `COMMENTS` of such a command.
+pub const PASS_COMMENTS: Row = Row {
+    name: "comments",
+    letter: None,
+    value: "PREFIX",
+    choices: &[],
+    help: "Lines that begin with PREFIX are passed over",
+};
+
 pub const WORDS: Row = Row {
     name: "words",
     letter: None,
@@ -212,7 +240,7 @@ pub const LIMIT: Row = Row {
     letter: None,
     value: "N",
     choices: &[],
-    help: "The most bytes of an input",
+    help: "The most bytes of an input, 1 to 4294967296",
 };
 
 pub const SOURCE: Operand = Operand {

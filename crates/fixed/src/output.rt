@@ -1,23 +1,24 @@
-//! Where answers go: standard output, or the file that an option names.
+//! The output for answers: standard output, or the file that an option names.
 //!
-//! A file is not written beside itself and then renamed: that would turn a device into a file, and lose the owner and
-//! the links of a file.
+//! The file is not written under another name and then renamed: that would turn a device into a file, and lose the
+//! owner and the links of a file.
 
 use crate::options::OUTPUT;
 use command_line::device::Output;
 use command_line::given::{Asked, Given, Refusal};
 use command_line::report::{Report, push_words};
 use line_engine::Status;
-use std::fs;
 use std::fs::File;
+use std::io::Write;
 use std::os::unix::fs::{FileTypeExt, MetadataExt};
+use std::{fs, io};
 
-/// The path of an input: standard input is `-`.
+/// Returns the path of an input: standard input is `-`.
 fn path_of(input: &str) -> &str {
     if input == "-" { "/dev/stdin" } else { input }
 }
 
-/// Whether two paths are of one file, which is there, and is no character device: those hold nothing to be lost.
+/// Whether two paths are the same existing file, other than a character device, which holds nothing to be lost.
 fn is_one_file(rt: &HostRuntime, one: &str, other: &str) -> bool {
     match (fs::metadata(rt, one), fs::metadata(rt, other)) {
         (Ok(one), Ok(other)) => {
@@ -28,7 +29,7 @@ fn is_one_file(rt: &HostRuntime, one: &str, other: &str) -> bool {
     }
 }
 
-/// Whether an input is there to be read: it is no folder, and a regular file can be opened. Others are opened once, by
+/// Whether an input can be read: it is not a folder, and a regular file can be opened. Other inputs are opened once, by
 /// their run, since a pipe that is opened and closed is lost.
 fn is_readable(rt: &HostRuntime, input: &str) -> bool {
     match fs::metadata(rt, path_of(input)) {
@@ -39,17 +40,22 @@ fn is_readable(rt: &HostRuntime, input: &str) -> bool {
     }
 }
 
-/// The output that the option names, for answers to no input. A file is made anew; where that fails, standard error
-/// says why, and the status is that of a failed write.
+/// Opens the output with this path. A file is created anew.
+fn created(rt: &HostRuntime, path: Option<&str>) -> io::Result<Output> {
+    match path {
+        None | Some("-") => Ok(Output::Standard(rt.stdout())),
+        Some(path) => Ok(Output::File(File::create(rt, path)?)),
+    }
+}
+
+/// Opens the output that the option names, for answers to operands. A file is created anew; if that fails, standard
+/// error says why, and the status is that of a failed write.
 pub fn open_answers(rt: &HostRuntime, given: &Given<'_, '_>) -> Result<Output, Status> {
-    let path = match given.value(&OUTPUT) {
-        None | Some("-") => return Ok(Output::Standard(rt.stdout())),
-        Some(path) => path,
-    };
-    match File::create(rt, path) {
-        Ok(file) => Ok(Output::File(file)),
+    let path = given.value(&OUTPUT);
+    match created(rt, path) {
+        Ok(output) => Ok(output),
         Err(error) => {
-            let mut report = Report::of(Some(path));
+            let mut report = Report::of(path);
             push_words(&mut report, rt.alloc(), &error);
             report.send(rt);
             Err(Status::WriteFault)
@@ -57,29 +63,96 @@ pub fn open_answers(rt: &HostRuntime, given: &Given<'_, '_>) -> Result<Output, S
     }
 }
 
-/// The output that the option names, for answers to files, or to standard input where there are none. It is opened
-/// before they are read, and stays as it was where none of them can be read.
+/// The output that the option names, opened when the first byte is written: a file is created anew only then.
+#[derive(Drop)]
+pub struct LateOutput<'r, 'a> {
+    rt: &'r HostRuntime,
+    path: Option<&'a str>,
+    output: Option<Output>,
+}
+
+impl<'r, 'a> LateOutput<'r, 'a> {
+    /// The output that the option names, not yet opened.
+    pub fn new(rt: &'r HostRuntime, given: &Given<'_, 'a>) -> LateOutput<'r, 'a> {
+        LateOutput {
+            rt,
+            path: given.value(&OUTPUT),
+            output: None,
+        }
+    }
+
+    /// Returns the path of the file, if the option names one.
+    pub fn file(&self) -> Option<&'a str> {
+        match self.path {
+            Some("-") => None,
+            path => path,
+        }
+    }
+
+    /// Opens the output, unless it is open.
+    pub fn open(&mut self) -> io::Result<()> {
+        if self.output.is_none() {
+            self.output = Some(created(self.rt, self.path)?);
+        }
+        Ok(())
+    }
+}
+
+impl<'r, 'a> Write for LateOutput<'r, 'a> {
+    fn write(&mut self, buf: &[u8]) -> io::Result<usize> {
+        self.open()?;
+        match &mut self.output {
+            Some(output) => output.write(buf),
+            None => Ok(0),
+        }
+    }
+
+    fn flush(&mut self) -> io::Result<()> {
+        match &mut self.output {
+            Some(output) => output.flush(),
+            None => Ok(()),
+        }
+    }
+}
+
+/// Refuses an output that is an input as well: it would be empty before it is read.
+pub fn refuse_input<'a>(
+    rt: &HostRuntime,
+    given: &Given<'_, 'a>,
+    inputs: &[&'a str],
+) -> Asked<'a, ()> {
+    match given.value(&OUTPUT) {
+        Some(path)
+            if path != "-"
+                && inputs
+                    .iter()
+                    .any(|input| is_one_file(rt, path_of(input), path)) => {
+            Err(Refusal::Word(path, "is an input: it cannot be the output as well"))
+        }
+        _ => Ok(()),
+    }
+}
+
+/// Returns the inputs of a command with these files: standard input if there are none.
+pub fn inputs_of<'f, 'a>(files: &'f [&'a str]) -> &'f [&'a str] {
+    if files.is_empty() { &["-"] } else { files }
+}
+
+/// Opens the output that the option names, for answers to files, or to standard input if there are none. It is opened
+/// before they are read, and stays unchanged if none of them can be read.
 ///
 /// # Errors
 ///
-/// A file that is an input as well is refused, since it would be empty before it is read.
+/// A file that is an input as well is refused.
 pub fn open_output<'a>(
     rt: &HostRuntime,
     given: &Given<'_, 'a>,
     files: &[&'a str],
 ) -> Asked<'a, Result<Output, Status>> {
-    let inputs = if files.is_empty() { &["-"] } else { files };
-    if let Some(path) = given.value(&OUTPUT) {
-        if path != "-"
-            && inputs
-                .iter()
-                .any(|input| is_one_file(rt, path_of(input), path))
-        {
-            return Err(Refusal::Word(path, "is an input: it cannot be the output as well"));
-        }
-        if !inputs.iter().any(|input| is_readable(rt, input)) {
-            return Ok(Ok(Output::Nowhere));
-        }
+    let inputs = inputs_of(files);
+    refuse_input(rt, given, inputs)?;
+    if given.value(&OUTPUT).is_some() && !inputs.iter().any(|input| is_readable(rt, input)) {
+        return Ok(Ok(Output::Nowhere));
     }
     Ok(open_answers(rt, given))
 }

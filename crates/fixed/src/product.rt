@@ -1,74 +1,88 @@
-//! One product of several files: they are read whole, one after another, before anything is written.
+//! One product of several files, which are read whole, one after another, before anything is written.
 //!
 //! So a name in two of them is a duplicate, and standard output never has a part of a header.
 
+use crate::explained::push_explanation;
 use crate::inputs::refuse_file;
+use crate::output::{LateOutput, inputs_of, refuse_input};
+use crate::settings::limit_asked;
 use command_line::device::{Failure, Unmarked, Writer};
+use command_line::given::{Asked, Given};
 use command_line::report::{Report, report_end, report_no_memory};
 use fixed_arrays::{ArrayRule, LiteralArrayRule};
 use fixed_command::watch::{Product as Whole, WatchedWhole};
-use fixed_command::{RefusedLine, Task, Watch, run_task};
-use fixed_constants::FormRule;
+use fixed_command::{
+    ConvertRule, Limit, Offers, RefusedLine, RenamedRule, Spelling, SwappedRule, Task, Watch,
+    run_task, whole_within, without_return,
+};
+use fixed_constants::{FormRule, PlainRule};
 use fixed_io::StdSink;
 use fixed_steps::Steps;
-use line_engine::{MAX_LIMIT, MemorySource, Sink, Source, Status, run_whole};
+use line_engine::{MemorySource, Sink, Source, Status, run_whole};
 use std::fs::File;
 use std::io;
 use std::io::{ErrorKind, Read};
 use std::sync::ledger::Ledger;
 
-/// What is written of all files.
+/// What to write for all files.
 #[derive(Clone, Copy)]
 pub enum Product<'a> {
     /// Named literals in a form.
     Constants(FormRule<'a>),
     /// A list of numerals in a form.
-    List(ArrayRule<'a>),
+    List(SwappedRule<ArrayRule<'a>>),
     /// A list of named literals in a form.
     Literals(LiteralArrayRule<'a>),
 }
 
-/// The bytes of all files, each with a newline at its end, and after how many lines each ends.
+/// The bytes of all files, with a newline between two if the first has none at its end, and the count of lines at the
+/// end of each. There are no more bytes than the limit and one.
 #[derive(Drop)]
 struct Gathered<'a> {
     bytes: Vec<u8>,
     ends: Vec<(&'a str, u64)>,
     lines: u64,
+    limit: u64,
 }
 
-/// How many of the bytes are newlines.
-fn newlines_in(bytes: &[u8]) -> u64 {
+/// Counts the lines of `bytes`: a last one may have no newline.
+fn lines_in(bytes: &[u8]) -> u64 {
     let mut count = 0u64;
     for byte in bytes {
         if *byte == b'\n' {
             count = count.saturating_add(1);
         }
     }
-    count
+    if bytes.is_empty() || bytes.ends_with(b"\n") {
+        count
+    } else {
+        count.saturating_add(1)
+    }
 }
 
-/// Appends the bytes of a file, with a newline at their end, and says how many lines they are.
-fn append_file<R: Read + Drop>(bytes: &mut Vec<u8>, reader: R) -> io::Result<u64> {
-    let mut reader = Unmarked::new(reader);
-    let start = bytes.len();
-    reader.read_to_end(bytes)?;
-    if bytes.len() > start && !bytes.ends_with(b"\n") {
+/// Appends the bytes of a file until there are one more than the limit, after a newline if those before it have none at
+/// their end. Returns how many lines of the file they are.
+fn append_file<R: Read + Drop>(bytes: &mut Vec<u8>, limit: u64, reader: R) -> io::Result<u64> {
+    if !bytes.is_empty() && !bytes.ends_with(b"\n") {
         bytes.push(b'\n')?;
     }
-    Ok(newlines_in(&bytes[start.min(bytes.len())..]))
+    let start = bytes.len();
+    let room = limit.saturating_add(1).saturating_sub(start as u64);
+    Unmarked::new(reader).take(room).read_to_end(bytes)?;
+    Ok(lines_in(&bytes[start.min(bytes.len())..]))
 }
 
 impl<'a> Gathered<'a> {
-    /// Appends a file whole.
+    /// Appends a file, within the limit.
     fn push_file<R: Read + Drop>(&mut self, name: &'a str, reader: R) -> io::Result<()> {
-        let lines = append_file(&mut self.bytes, reader)?;
+        let lines = append_file(&mut self.bytes, self.limit, reader)?;
         let last = self.lines.saturating_add(lines);
         self.ends.push((name, last))?;
         self.lines = last;
         Ok(())
     }
 
-    /// Appends a file, or standard input where its name is `-`.
+    /// Appends a file, or standard input if its name is `-`.
     fn push(&mut self, rt: &HostRuntime, name: &'a str) -> io::Result<()> {
         if name == "-" {
             self.push_file(name, rt.stdin())
@@ -79,14 +93,14 @@ impl<'a> Gathered<'a> {
     }
 }
 
-/// Appends a line of the product: its number in its file, from 1, and the file's name where that is asked for; of one
-/// past all files its number.
+/// Appends a line of the product: its number in its file, from 1, and the file's name if `is_named`. A line of standard
+/// input or past all files has only a number.
 fn push_line(report: &mut Report, ends: &[(&str, u64)], line: u64, is_named: bool) {
     let mut before = 0;
     for end in ends {
         if line > before && line <= end.1 {
             report.number(line.saturating_sub(before));
-            if is_named {
+            if is_named && end.0 != "-" {
                 report.text(" of ");
                 report.text(end.0);
             }
@@ -97,7 +111,7 @@ fn push_line(report: &mut Report, ends: &[(&str, u64)], line: u64, is_named: boo
     report.number(line.saturating_sub(before));
 }
 
-/// Appends the file that has a line of the product, and `: `; nothing for standard input.
+/// Appends the file that contains a line of the product, and `: `; nothing for standard input.
 fn push_file_of(report: &mut Report, ends: &[(&str, u64)], line: u64) {
     let mut before = 0;
     for end in ends {
@@ -109,8 +123,14 @@ fn push_file_of(report: &mut Report, ends: &[(&str, u64)], line: u64) {
     }
 }
 
-/// Says on standard error which line of the files is refused, and why; of a duplicate, of which line.
-fn report_line(rt: &HostRuntime, ends: &[(&str, u64)], line: &RefusedLine) {
+/// Reports on standard error which line of the files is refused, and why; for a duplicate, also the other line.
+fn report_line<L: Ledger>(
+    rt: &HostRuntime,
+    product: &Product<'_>,
+    ends: &[(&str, u64)],
+    line: &RefusedLine,
+    steps: &mut Steps<L>,
+) {
     let mut report = Report::of(None);
     push_file_of(&mut report, ends, line.number);
     report.text("line ");
@@ -125,10 +145,36 @@ fn report_line(rt: &HostRuntime, ends: &[(&str, u64)], line: &RefusedLine) {
             push_line(&mut report, ends, number_of(digits), true);
         }
     }
+    if !line.is_cut() {
+        push_list_explanation(&mut report, product, line, steps);
+    }
     report.send(rt);
 }
 
-/// The number of some digits.
+/// The options for other spellings of the numerals of a list.
+const OFFERS: Offers = Offers {
+    decimal: true,
+    trim: false,
+    radix: true,
+};
+
+/// Appends why a numeral of a list is refused, unless its point is another byte.
+fn push_list_explanation<L: Ledger>(
+    report: &mut Report,
+    product: &Product<'_>,
+    line: &RefusedLine,
+    steps: &mut Steps<L>,
+) {
+    let n = match product {
+        Product::List(list) if list.decimal == b'.' => &list.rule.numerals,
+        _ => return,
+    };
+    let rule = ConvertRule::reading(Spelling::Numeral, n.radix, n.format, n.policy, n.mode);
+    let text = (without_return(line.text.as_bytes()), 0);
+    push_explanation(report, &rule, OFFERS, text, line.cause.as_bytes(), steps);
+}
+
+/// Returns the number that digits write.
 fn number_of(digits: &[u8]) -> u64 {
     let mut number = 0u64;
     for digit in digits {
@@ -139,7 +185,7 @@ fn number_of(digits: &[u8]) -> u64 {
     number
 }
 
-/// Says on standard error why a file could not be read.
+/// Reports on standard error why a file could not be read.
 fn refuse(rt: &HostRuntime, name: &str, error: &io::Error) -> Status {
     if error.kind() == ErrorKind::OutOfMemory {
         report_no_memory(rt)
@@ -148,11 +194,8 @@ fn refuse(rt: &HostRuntime, name: &str, error: &io::Error) -> Status {
     }
 }
 
-/// Reads all files, or standard input where there are none. Where one cannot be read standard error says so, and why.
+/// Reads all files. If one cannot be read, reports why on standard error.
 fn gather<'a>(rt: &HostRuntime, files: &[&'a str], all: &mut Gathered<'a>) -> Status {
-    if files.is_empty() {
-        return gather_file(rt, "-", all);
-    }
     for name in files {
         let status = gather_file(rt, name, all);
         if status != Status::Done {
@@ -162,7 +205,7 @@ fn gather<'a>(rt: &HostRuntime, files: &[&'a str], all: &mut Gathered<'a>) -> St
     Status::Done
 }
 
-/// Reads a file. Where it cannot be read standard error says so, and why.
+/// Reads a file. If it cannot be read, reports why on standard error.
 fn gather_file<'a>(rt: &HostRuntime, name: &'a str, all: &mut Gathered<'a>) -> Status {
     match all.push(rt, name) {
         Ok(()) => Status::Done,
@@ -170,10 +213,11 @@ fn gather_file<'a>(rt: &HostRuntime, name: &'a str, all: &mut Gathered<'a>) -> S
     }
 }
 
-/// Writes the product of an input; of one that is refused nothing is written.
+/// Writes the product of an input within the limit, or nothing if the input is refused.
 fn run_on<S: Source, K: Sink, L: Ledger>(
     rt: &HostRuntime,
     product: &Product<'_>,
+    limit: &Option<Limit>,
     watch: &Watch,
     source: &mut S,
     sink: &mut K,
@@ -183,6 +227,7 @@ fn run_on<S: Source, K: Sink, L: Ledger>(
         Product::Constants(rule) => {
             run_task(
                 rt.alloc(),
+                limit,
                 &Task::Constants(*rule),
                 watch,
                 source,
@@ -193,44 +238,80 @@ fn run_on<S: Source, K: Sink, L: Ledger>(
         Product::List(rule) => {
             let watched = WatchedWhole { rule, watch };
             let whole = Whole { rule: &watched };
-            run_whole(rt.alloc(), MAX_LIMIT, &whole, source, sink, steps)
+            run_whole(rt.alloc(), whole_within(limit), &whole, source, sink, steps)
         }
         Product::Literals(rule) => {
-            let watched = WatchedWhole { rule, watch };
+            let renamed = RenamedRule { rule };
+            let rule = PlainRule { rule: &renamed };
+            let watched = WatchedWhole { rule: &rule, watch };
             let whole = Whole { rule: &watched };
-            run_whole(rt.alloc(), MAX_LIMIT, &whole, source, sink, steps)
+            run_whole(rt.alloc(), whole_within(limit), &whole, source, sink, steps)
         }
     }
 }
 
-/// Writes the product of all files as one input, or of standard input where there are none. Where one of them cannot
-/// be read nothing is written.
-pub fn run_product<L: Ledger>(
+/// Writes the product of the files from an index on as one input, or of standard input if there are none. If one of
+/// them cannot be read or is refused, or all have more bytes than the limit that the option names, nothing is written,
+/// and an output file stays as it was.
+pub fn run_product<'a, L: Ledger>(
     rt: &HostRuntime,
     product: &Product<'_>,
-    files: &[&str],
+    given: &Given<'_, 'a>,
+    place: usize,
     steps: &mut Steps<L>,
-) -> Status {
+) -> Asked<'a, Status> {
+    let files = inputs_of(given.from(place));
+    let limit = match limit_asked(given) {
+        Ok(limit) => limit,
+        Err(refusal) => return Err(refusal),
+    };
+    refuse_input(rt, given, files)?;
     let mut all = Gathered {
         bytes: Vec::new(rt.alloc()),
         ends: Vec::new(rt.alloc()),
         lines: 0,
+        limit: whole_within(&limit),
     };
     let status = gather(rt, files, &mut all);
     if status != Status::Done {
-        return status;
+        return Ok(status);
     }
+    let output = LateOutput::new(rt, given);
+    Ok(write_product(rt, product, &limit, all, output, steps))
+}
+
+/// Writes the product of what was read. An output file is created also for a product without a byte.
+fn write_product<L: Ledger>(
+    rt: &HostRuntime,
+    product: &Product<'_>,
+    limit: &Option<Limit>,
+    all: Gathered<'_>,
+    mut output: LateOutput<'_, '_>,
+    steps: &mut Steps<L>,
+) -> Status {
     let watch = Watch::new();
     let failure = Failure::new(None);
     let mut source = MemorySource::new(all.bytes, 65_536, Vec::new(rt.alloc()));
     let mut sink = StdSink::new(Writer {
-        writer: rt.stdout(),
+        writer: &mut output,
         failure: &failure,
     });
-    let status = run_on(rt, product, &watch, &mut source, &mut sink, steps);
+    let mut status = run_on(rt, product, limit, &watch, &mut source, &mut sink, steps);
+    let lines = sink.lines();
     if let Some(line) = watch.refusals().first {
-        report_line(rt, &all.ends, &line);
+        report_line(rt, product, &all.ends, &line, steps);
     }
-    report_end(rt, None, status, sink.lines(), &failure);
+    if status == Status::Done {
+        if let Err(error) = output.open() {
+            failure.set(Some(error));
+            status = Status::WriteFault;
+        }
+    }
+    let file = if status == Status::WriteFault {
+        output.file()
+    } else {
+        None
+    };
+    report_end(rt, file, status, lines, &failure);
     status
 }

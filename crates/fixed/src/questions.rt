@@ -1,11 +1,17 @@
-//! Questions about words: those of the command line, or the lines of an input.
+//! Questions about operands, or about the lines of an input.
 //!
-//! An answer does not say which word it refuses, so standard error names the first one. To find it, the question is
-//! asked again of the words up to it.
+//! An answer does not say which operand it refuses, so standard error names the first one. To find it, the question is
+//! asked again for the operands up to it.
 
+ghost use Rattle.std.specs.Prelude.{◌≡◌, codes, if◌then◌else◌};
+ghost use Rattle.command_line.specs.Words.{has_flag};
+
+use crate::explained::push_question_explanation;
 use crate::inputs::{Job, run_inputs_to};
-use crate::options::JSON;
+use crate::line_layout::{layout_asked, refuse_layout};
+use crate::options::{JSON, LIMIT};
 use crate::output::{open_answers, open_output};
+use crate::settings::{limit_asked, refuse_value};
 use command_line::device::{Failure, Output, Writer};
 use command_line::given::{Asked, Given, Refusal};
 use command_line::page::Row;
@@ -21,11 +27,16 @@ pub const FILE: Row = Row {
     letter: None,
     value: "FILE",
     choices: &[],
-    help: "Each line of FILE is asked about; `-` is standard input",
+    help: "Each line of FILE is a word; `-` is standard input",
 };
 
-/// The form of the answers.
-pub fn form_of(given: &Given<'_, '_>) -> Form {
+/// Why an option for an input is refused beside operands.
+const FOR_FILES: &str = "is for the lines of a file: there are words on the command line";
+
+/// Returns the form of the answers.
+pub fn form_of(given: &Given<'_, '_>) -> Form
+    ensures { result ≡ (if has_flag given.now (codes "json") then Form.Members else Form.Lines) }
+{
     if given.has(&JSON) {
         Form::Members
     } else {
@@ -33,7 +44,7 @@ pub fn form_of(given: &Given<'_, '_>) -> Form {
     }
 }
 
-/// Says on standard error which word was the first that is refused, and why.
+/// Reports on standard error the first refused operand and the cause.
 fn report_word<L: Ledger>(
     rt: &HostRuntime,
     question: &Question,
@@ -41,14 +52,19 @@ fn report_word<L: Ledger>(
     steps: &mut Steps<L>,
 ) {
     if let Some(refused) = first_refused(question, words, steps) {
-        let mut report = Report::of(words.get(refused.place).copied());
+        let word = words.get(refused.place).copied();
         let block = refused.block.as_bytes();
-        report.bytes(block.strip_prefix(b"error: ").unwrap_or(block), 200);
+        let message = block.strip_prefix(b"error: ").unwrap_or(block);
+        let cause = message.strip_suffix(b"\n").unwrap_or(message);
+        let mut report = Report::of(word);
+        report.bytes(cause, 200);
+        let word = word.unwrap_or("").as_bytes();
+        push_question_explanation(&mut report, question, false, (word, 0), cause, steps);
         report.send(rt);
     }
 }
 
-/// Asks a question of each word of the command line. Where one is refused, standard error names the first that is.
+/// Answers a question about each operand. If one is refused, standard error names the first refused operand.
 pub fn run_words<L: Ledger>(
     rt: &HostRuntime,
     form: Form,
@@ -70,8 +86,8 @@ pub fn run_words<L: Ledger>(
     status
 }
 
-/// Asks a question of each word from a place on; where there are none, of each line of the file that the option
-/// names, or of standard input.
+/// Answers a question about each operand from an index on; if there are none, about each line of the file that the
+/// option names, or of standard input.
 pub fn run_question<'a, L: Ledger>(
     rt: &HostRuntime,
     question: &Question,
@@ -80,6 +96,10 @@ pub fn run_question<'a, L: Ledger>(
     steps: &mut Steps<L>,
 ) -> Asked<'a, Status> {
     let words = given.from(place);
+    if !words.is_empty() {
+        refuse_layout(given, FOR_FILES)?;
+        refuse_value(given, &LIMIT, FOR_FILES)?;
+    }
     let file = match given.value(&FILE) {
         Some(file) if !words.is_empty() => {
             return Err(Refusal::Word(file, "is not read: there are words on the command line"));
@@ -87,6 +107,15 @@ pub fn run_question<'a, L: Ledger>(
         file => file.unwrap_or("-"),
     };
     let form = form_of(given);
+    let task = match layout_asked(given) {
+        Ok(None) => Task::Ask(form, *question),
+        Ok(Some(layout)) => Task::LaidOutAsk(form, *question, layout),
+        Err(refusal) => return Err(refusal),
+    };
+    let limit = match limit_asked(given) {
+        Ok(limit) => limit,
+        Err(refusal) => return Err(refusal),
+    };
     let opened = if words.is_empty() {
         open_output(rt, given, &[file])?
     } else {
@@ -97,8 +126,8 @@ pub fn run_question<'a, L: Ledger>(
         Err(status) => return Ok(status),
     };
     if words.is_empty() {
-        let job = Job::Task(Task::Ask(form, *question));
-        Ok(run_inputs_to(rt, &job, &[file], &mut output, steps))
+        let job = Job::Task(task);
+        Ok(run_inputs_to(rt, &job, &limit, "", &[file], &mut output, steps))
     } else {
         Ok(run_words(rt, form, question, words, &mut output, steps))
     }

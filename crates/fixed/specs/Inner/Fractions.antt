@@ -3,7 +3,7 @@ use Rattle.std.specs.Prelude.{◌≡◌, ℕ, false, List, length}
 use Rattle.std.specs.Str.Parse.{AllDigits, digits_value}
 use Rattle.fixed_write.specs.Texts.{last_digits}
 
--- they are as many as `count`, and those of n
+-- `digits` are the `count` digits of `n`
 pub record IsFraction (count n : ℕ) (digits : List ℕ) : Type 0 where
   pub text : digits ≡ last_digits 10 false count n
   pub are : AllDigits 10 digits

@@ -1,37 +1,53 @@
 //! Commands whose source is a decimal format, such as `D2` for money.
 //!
-//! A decimal format stands in the place of SOURCE alone. Options that mean nothing for it are refused, since a user who
-//! gives one expects something else: a second rounding loses a cent where the first one meets a tie.
+//! A decimal format can only be the SOURCE. Options that mean nothing for it are refused, since a user who gives one
+//! expects something else: a second rounding loses a cent if the first one meets a tie.
 
-ghost use Rattle.std.specs.Prelude.{◌≡◌, ℕ, IfErr, IfOk, None, codes, false};
-ghost use Rattle.command_line.specs.Words.{has_flag, value_of};
-ghost use Rattle.fixed.specs.Amounts.{HasNoBinaryOption, IsAmountAsked, IsRadixTen, amount_print, amount_spelling};
+ghost use Rattle.std.specs.Prelude.{◌≡◌, ℕ, IfErr, IfOk, MatchOption, codes};
+ghost use Rattle.command_line.specs.Words.{keyword_at, value_of, word_at};
+ghost use Rattle.fixed.specs.Amounts.{AreUnitsAsked, HasNoBinaryOption, IsAmountAsked, IsNumeralAsked, IsRadixTen};
+ghost use Rattle.fixed.specs.Amounts.{amount_print, amount_spelling};
+ghost use Rattle.fixed.specs.Amounts.{AreUnitBitsAsked, IsAmountPackAsked, IsDecimalAsked, NamesNoDecimal};
+ghost use Rattle.fixed_amounts.specs.declared.facts.AmountQuestion.{AmountQuestion};
 ghost use Rattle.fixed_amounts.specs.declared.settings.AmountSettings.{AmountSettings};
 ghost use Rattle.fixed_command.specs.Asked.{IsPrintNamed};
 ghost use Rattle.fixed_command.specs.declared.print.Print.{Print};
+ghost use Rattle.fixed_pack.specs.declared.amounts.PackAmounts.{PackAmounts};
+ghost use Rattle.fixed_pack.specs.declared.bits.PackBits.{PackBits};
 
 use crate::commands::column::{HEADER, KEEP};
 use crate::commands::column_report::{self, Known};
 use crate::commands::column_words::{delimiter_of, destination_of, form_of, skipped_of};
-use crate::commands::convert::{layout_of, refuse_words};
-use crate::inputs::{Job, is_last, refusal_report, run_inputs, run_inputs_to};
-use crate::options::{PLACES, PLACES_MODE, PRINT, RADIX, REPORT, TARGET_MODE, WORDS};
-use crate::output::open_output;
-use crate::settings::{is_like_format, known, mode_of, policy_of, spelling_of};
-use column_engine::{Column, ColumnWatch};
-use command_line::device::{Failure, Output, Unmarked, Writer};
-use command_line::given::{Asked, Given, Refusal};
-use command_line::page::Row;
-use command_line::report::report_end;
-use fixed_amounts::{
-    AmountPrint, AmountRefusal, AmountSettings, AmountSpelling, decimal_format_named,
-    overflow_explanation,
+use crate::commands::convert::refuse_words;
+use crate::commands::pack::{Explains, bits_of};
+use crate::explained::{TRIM_OFFERS, push_amount_explanation};
+use crate::inputs::{Job, is_last, refusal_report, run_inputs};
+use crate::line_layout::layout_of;
+use crate::options::{
+    FIELD, PACK_FROM, PLACES, PLACES_MODE, POLICY, PRINT, RADIX, REPORT, SWAP, TARGET_MODE,
+    UNPACK_TO, WORDS,
 };
+use crate::settings::{
+    PackInput, endian_of, is_like_format, known, mode_of, pack_input_of, policy_of, refuse_flag,
+    refuse_value, spelling_of, written_floats_of,
+};
+use column_engine::{Column, ColumnWatch};
+use command_line::device::{Failure, Limited, Output, Unmarked, Writer};
+use command_line::given::{Asked, Given, Refusal};
+use command_line::report::{Report, report_end};
+use fixed_amounts::{
+    AmountPrint, AmountQuestion, AmountRefusal, AmountSettings, AmountSpelling,
+    decimal_format_named,
+};
+use fixed_bits::Format;
 use fixed_command::{
-    AmountLines, ColumnConversion, Print, Spelling, convert_amounts, print_named, run_amounts,
+    AmountLines, ColumnConversion, Limit, Offers, Print, Spelling, bytes_within, convert_amounts,
+    print_named, run_amounts,
 };
 use fixed_decimal::DecimalFormat;
 use fixed_io::{StdSink, StdSource};
+use fixed_numeral::ParseFixedError;
+use fixed_pack::{PackAmounts, PackBits, UnpackAmounts};
 use fixed_respell::Refusal as LineRefusal;
 use fixed_steps::Steps;
 use line_engine::Status;
@@ -39,37 +55,31 @@ use run_engine::Refusals;
 use std::io::Read;
 use std::sync::ledger::Ledger;
 
-/// How many bytes of a refused line are kept.
-const MAX_KEPT: usize = 160;
+/// Why `--places` is refused.
+const TWICE: &str =
+    "rounds a second time: a decimal format writes its places, so take D0 to D18 for SOURCE";
 
-/// The decimal format that the word at a place names.
-pub fn decimal_at(given: &Given<'_, '_>, place: usize) -> Option<DecimalFormat> {
+/// Why `--target-mode` is refused.
+const NO_TARGET: &str = "goes with a TARGET, which a decimal format has not: '--mode' rounds";
+
+/// The options of `fixed column` for other spellings of amounts.
+pub const COLUMN_OFFERS: Offers = Offers {
+    decimal: true,
+    trim: true,
+    radix: false,
+};
+
+/// How many bytes of a refused line are kept.
+pub const MAX_KEPT: usize = 160;
+
+/// Returns the decimal format that the operand at an index names.
+pub fn decimal_at(given: &Given<'_, '_>, place: usize) -> Option<DecimalFormat>
+    ensures { MatchOption result (NamesNoDecimal (word_at given.now place))
+        (λ format. IsDecimalAsked (word_at given.now place) format) }
+{
     match given.words.get(place) {
         Some(word) => decimal_format_named(word.as_bytes()),
         None => None,
-    }
-}
-
-/// Refuses an option with a value, for this reason.
-fn refuse_value<'a>(given: &Given<'_, 'a>, row: &Row, why: &'static str) -> Asked<'a, ()>
-    ensures value { IfOk result (λ _. value_of given.now row.now.name.now ≡ None) }
-    ensures refused { IfErr result (λ _. ¬ (value_of given.now row.now.name.now ≡ None)) }
-{
-    match given.value(row) {
-        None => Ok(()),
-        Some(_) => Err(Refusal::Option(row.name, why)),
-    }
-}
-
-/// Refuses an option without a value, for this reason.
-fn refuse_flag<'a>(given: &Given<'_, 'a>, row: &Row, why: &'static str) -> Asked<'a, ()>
-    ensures value { IfOk result (λ _. has_flag given.now row.now.name.now ≡ false) }
-    ensures refused { IfErr result (λ _. ¬ (has_flag given.now row.now.name.now ≡ false)) }
-{
-    if given.has(row) {
-        Err(Refusal::Option(row.name, why))
-    } else {
-        Ok(())
     }
 }
 
@@ -92,16 +102,10 @@ fn refuse_binary_options<'a>(given: &Given<'_, 'a>) -> Asked<'a, ()>
     ensures value { IfOk result (λ _. HasNoBinaryOption given.now) }
     ensures refused { IfErr result (λ _. ¬ HasNoBinaryOption given.now) }
 {
-    let twice =
-        "rounds a second time: a decimal format writes its places, so take D0 to D18 for SOURCE";
     refuse_radix(given)?;
-    refuse_value(
-        given,
-        &TARGET_MODE,
-        "goes with a TARGET, which a decimal format has not: '--mode' rounds",
-    )?;
-    refuse_value(given, &PLACES, twice)?;
-    refuse_value(given, &PLACES_MODE, twice)?;
+    refuse_value(given, &TARGET_MODE, NO_TARGET)?;
+    refuse_value(given, &PLACES, TWICE)?;
+    refuse_value(given, &PLACES_MODE, TWICE)?;
     refuse_flag(
         given,
         &WORDS,
@@ -114,7 +118,7 @@ fn refuse_binary_options<'a>(given: &Given<'_, 'a>) -> Asked<'a, ()>
     )
 }
 
-/// What of an amount is written.
+/// Returns the part of an amount to print.
 fn amount_print(print: Print) -> AmountPrint
     ensures { result ≡ amount_print print }
 {
@@ -127,7 +131,7 @@ fn amount_print(print: Print) -> AmountPrint
     }
 }
 
-/// How a line says an amount.
+/// Returns how a line spells an amount.
 fn amount_spelling(spelling: Spelling) -> AmountSpelling
     ensures { result ≡ amount_spelling spelling }
 {
@@ -137,7 +141,7 @@ fn amount_spelling(spelling: Spelling) -> AmountSpelling
     }
 }
 
-/// What the option says of an answer is written.
+/// Returns the part of an answer to print, from the option.
 fn print_of<'a>(given: &Given<'_, 'a>) -> Asked<'a, Print>
     ensures value { IfOk result (λ a. IsPrintNamed (value_of given.now (codes "print")) a) }
     ensures refused { IfErr result (λ _. (a : Print) → ¬ IsPrintNamed (value_of given.now (codes "print")) a) }
@@ -145,7 +149,7 @@ fn print_of<'a>(given: &Given<'_, 'a>) -> Asked<'a, Print>
     known(print_named(given.value(&PRINT)), given, &PRINT)
 }
 
-/// How amounts are read and written, as the options say.
+/// Returns how amounts are read and written, from the options.
 pub fn amount_settings<'a>(
     given: &Given<'_, 'a>,
     format: DecimalFormat,
@@ -171,8 +175,153 @@ pub fn amount_settings<'a>(
     })
 }
 
-/// Refuses a TARGET at a place: a word with the shape of a format, or the name of a decimal format.
-fn refuse_target<'a>(given: &Given<'_, 'a>, place: usize) -> Asked<'a, ()> {
+/// Returns the question about a numeral.
+pub fn numeral_question<'a>(
+    given: &Given<'_, 'a>,
+    format: DecimalFormat,
+) -> Asked<'a, AmountQuestion>
+    ensures value { IfOk result (λ q. IsNumeralAsked given.now format q) }
+    ensures refused { IfErr result (λ _. (q : AmountQuestion) → ¬ IsNumeralAsked given.now format q) }
+{
+    match refuse_radix(given) {
+        Ok(()) => (),
+        Err(refusal) => return Err(refusal),
+    }
+    Ok(AmountQuestion::Numeral {
+        format,
+        policy: policy_of(given)?,
+        mode: mode_of(given)?,
+    })
+}
+
+/// Returns the question about a count of units.
+pub fn units_question<'a>(given: &Given<'_, 'a>, format: DecimalFormat) -> Asked<'a, AmountQuestion>
+    ensures value { IfOk result (λ q. AreUnitsAsked given.now format q) }
+    ensures refused { IfErr result (λ _. (q : AmountQuestion) → ¬ AreUnitsAsked given.now format q) }
+{
+    refuse_radix(given)?;
+    refuse_value(
+        given,
+        &FIELD,
+        "is for binary formats: the word of a decimal format is all 64 bits",
+    )?;
+    refuse_flag(
+        given,
+        &SWAP,
+        "is for binary formats: 'fixed unpack --endian' reads the bytes of amounts in either order",
+    )?;
+    Ok(AmountQuestion::Units { format })
+}
+
+/// Returns how lines are packed: each as its amount's count of units.
+pub fn pack_settings<'a>(given: &Given<'_, 'a>, format: DecimalFormat) -> Asked<'a, PackAmounts>
+    ensures value { IfOk result (λ p. IsAmountPackAsked given.now format p) }
+    ensures refused { IfErr result (λ _. (p : PackAmounts) → ¬ IsAmountPackAsked given.now format p) }
+{
+    match pack_input_of(given)? {
+        PackInput::Numerals => (),
+        PackInput::Bits => return Err(Refusal::Option(PACK_FROM.name, "is for words of units")),
+        PackInput::Floats(_) => {
+            return Err(Refusal::Option(
+                PACK_FROM.name,
+                "is for binary formats: a float is seldom the decimal that was meant",
+            ));
+        }
+    }
+    refuse_radix(given)?;
+    refuse_flag(
+        given,
+        &REPORT,
+        "is for floats: of a decimal format no errors are counted",
+    )?;
+    Ok(PackAmounts {
+        format,
+        policy: policy_of(given)?,
+        mode: mode_of(given)?,
+        endian: endian_of(given)?,
+    })
+}
+
+/// Returns how lines are packed, each a count of units.
+pub fn pack_units<'a>(given: &Given<'_, 'a>) -> Asked<'a, PackBits>
+    ensures value { IfOk result (λ p. AreUnitBitsAsked given.now p) }
+    ensures refused { IfErr result (λ _. (p : PackBits) → ¬ AreUnitBitsAsked given.now p) }
+{
+    refuse_radix(given)?;
+    match bits_of(given, Format::of(true, 64, 0)) {
+        Ok(bits) => Ok(bits),
+        Err(refusal) => Err(refusal),
+    }
+}
+
+/// Returns how words are unpacked: each as the amount of its count of units.
+pub fn unpack_settings<'a>(
+    given: &Given<'_, 'a>,
+    format: DecimalFormat,
+) -> Asked<'a, UnpackAmounts> {
+    refuse_target(given, 1)?;
+    match written_floats_of(given)? {
+        None => (),
+        Some(_) => {
+            return Err(Refusal::Option(
+                UNPACK_TO.name,
+                "is for binary formats: a float is seldom the amount",
+            ));
+        }
+    }
+    refuse_value(
+        given,
+        &POLICY,
+        "means nothing: each word of 64 bits is in range",
+    )?;
+    refuse_value(given, &TARGET_MODE, NO_TARGET)?;
+    refuse_value(given, &PLACES, TWICE)?;
+    refuse_value(given, &PLACES_MODE, TWICE)?;
+    let print = match print_of(given) {
+        Ok(print) => print,
+        Err(refusal) => return Err(refusal),
+    };
+    Ok(UnpackAmounts {
+        format,
+        print: amount_print(print),
+        endian: endian_of(given)?,
+    })
+}
+
+impl Explains for PackAmounts {
+    fn message(cause: ParseFixedError) -> &'static str {
+        cause.message()
+    }
+
+    fn explain<L: Ledger>(
+        &self,
+        report: &mut Report,
+        numeral: &[u8],
+        before: usize,
+        cause: ParseFixedError,
+        steps: &mut Steps<L>,
+    ) {
+        let settings = AmountSettings {
+            spelling: AmountSpelling::Numeral,
+            format: self.format,
+            policy: self.policy,
+            mode: self.mode,
+            print: AmountPrint::Text,
+        };
+        let cause = cause.message().as_bytes();
+        push_amount_explanation(
+            report,
+            &settings,
+            TRIM_OFFERS,
+            (numeral, before),
+            cause,
+            steps,
+        );
+    }
+}
+
+/// Refuses a TARGET at an index: an operand with the shape of a format, or the name of a decimal format.
+pub fn refuse_target<'a>(given: &Given<'_, 'a>, place: usize) -> Asked<'a, ()> {
     match given.keyword(place) {
         Some(word) if is_like_format(word) || decimal_format_named(word.as_bytes()).is_some() => {
             Err(Refusal::Word(
@@ -184,18 +333,32 @@ fn refuse_target<'a>(given: &Given<'_, 'a>, place: usize) -> Asked<'a, ()> {
     }
 }
 
-/// Refuses a decimal format in the place of TARGET.
-pub fn refuse_decimal_target<'a>(given: &Given<'_, 'a>, place: usize) -> Asked<'a, ()> {
+/// Returns the decimal format that the operand at an index names, if it may be a keyword.
+fn decimal_keyword(given: &Given<'_, '_>, place: usize) -> Option<DecimalFormat>
+    ensures { MatchOption result (NamesNoDecimal (keyword_at given.now place))
+        (λ format. IsDecimalAsked (keyword_at given.now place) format) }
+{
     match given.keyword(place) {
-        Some(word) if decimal_format_named(word.as_bytes()).is_some() => Err(Refusal::Word(
-            word,
-            "is a decimal format, which is no TARGET: take it for SOURCE; a file of this name is './' and the name",
-        )),
-        _ => Ok(()),
+        Some(word) => decimal_format_named(word.as_bytes()),
+        None => None,
     }
 }
 
-/// Answers the lines of each file with the amounts that they say.
+/// Refuses a decimal format as the TARGET.
+pub fn refuse_decimal_target<'a>(given: &Given<'_, 'a>, place: usize) -> Asked<'a, ()>
+    ensures value { IfOk result (λ _. NamesNoDecimal (keyword_at given.now place)) }
+    ensures refused { IfErr result (λ _. ¬ NamesNoDecimal (keyword_at given.now place)) }
+{
+    match decimal_keyword(given, place) {
+        Some(_) => Err(Refusal::Word(
+            given.keyword(place).unwrap_or(""),
+            "is a decimal format, which is no TARGET: take it for SOURCE; a file of this name is './' and the name",
+        )),
+        None => Ok(()),
+    }
+}
+
+/// Answers the lines of each file, which spell amounts.
 pub fn convert<'a, L: Ledger>(
     rt: &HostRuntime,
     given: &Given<'_, 'a>,
@@ -213,14 +376,11 @@ pub fn convert<'a, L: Ledger>(
         Err(refusal) => return Err(refusal),
     };
     let job = Job::Amounts(AmountLines { settings, layout });
-    let files = given.from(1);
-    match open_output(rt, given, files)? {
-        Ok(mut output) => Ok(run_inputs_to(rt, &job, files, &mut output, steps)),
-        Err(status) => Ok(status),
-    }
+    let format = given.needed(0, "SOURCE")?;
+    run_inputs(rt, &job, format, given, 1, steps)
 }
 
-/// Converts the columns of each file into amounts. `place` is that of the format.
+/// Converts the columns of each file into amounts. `place` is the index of the format.
 pub fn column<'a, L: Ledger>(
     rt: &HostRuntime,
     given: &Given<'_, 'a>,
@@ -249,14 +409,16 @@ pub fn column<'a, L: Ledger>(
         is_kept: given.has(&KEEP),
         delimiter: delimiter_of(given)?,
     });
-    Ok(run_inputs(rt, &job, given.from(files), steps))
+    let format = given.needed(place, "SOURCE")?;
+    run_inputs(rt, &job, format, given, files, steps)
 }
 
-/// Converts columns of one input into amounts, and says on standard error why it did not end well.
+/// Converts columns of one input into amounts, and reports on standard error why it did not end well.
 #[inline(never)]
 pub fn run_columns_on<R: Read + Drop, L: Ledger>(
     rt: &HostRuntime,
     conversion: &ColumnConversion<'_, AmountSettings>,
+    limit: &Option<Limit>,
     file: Option<&str>,
     reader: R,
     output: &mut Output,
@@ -264,7 +426,8 @@ pub fn run_columns_on<R: Read + Drop, L: Ledger>(
 ) -> Status {
     let watch = ColumnWatch::new(conversion.skipped.saturating_add(1));
     let failure = Failure::new(None);
-    let mut source = StdSource::new(reader);
+    let mut limited = Limited::new(reader, bytes_within(limit));
+    let mut source = StdSource::new(&mut limited);
     let mut sink = StdSink::new(Writer {
         writer: output,
         failure: &failure,
@@ -282,13 +445,13 @@ pub fn run_columns_on<R: Read + Drop, L: Ledger>(
         watch: &watch,
         report: None,
         end: &end,
+        is_exceeded: limited.is_exceeded(),
     };
     column_report::report_end(rt, file, &known, sink.lines(), &failure, steps);
-    end.status()
+    known.status()
 }
 
-/// Says on standard error how many lines of an input were refused, and which was the first, with its text and the
-/// cause.
+/// Reports on standard error how many lines of an input were refused, with the text and the cause of the first.
 fn report_refused<L: Ledger>(
     rt: &HostRuntime,
     lines: &AmountLines,
@@ -300,22 +463,29 @@ fn report_refused<L: Ledger>(
         let text = line.line.as_bytes();
         let cause = line.cause.words().as_bytes();
         let mut report = refusal_report(file, refusals.count, line.number, text, cause);
-        // Of a line that may be cut no more is said.
-        if let (LineRefusal::Numeral(_), true) = (line.cause, text.len() < MAX_KEPT) {
-            let s = &lines.settings;
+        // A line that may be cut is not explained.
+        if text.len() < MAX_KEPT {
             let numeral = lines.layout.numeral_of(text);
-            let more = overflow_explanation(numeral, s.format, s.mode, steps);
-            report.bytes(more.as_bytes(), 640);
+            let before = lines.layout.blanks_before(text);
+            push_amount_explanation(
+                &mut report,
+                &lines.settings,
+                TRIM_OFFERS,
+                (numeral, before),
+                cause,
+                steps,
+            );
         }
         report.send(rt);
     }
 }
 
-/// Answers the lines of one input, and says on standard error why it did not end well.
+/// Answers the lines of one input, and reports on standard error why it did not end well.
 #[inline(never)]
 pub fn run_on<R: Read + Drop, L: Ledger>(
     rt: &HostRuntime,
     lines: &AmountLines,
+    limit: &Option<Limit>,
     file: Option<&str>,
     reader: R,
     output: &mut Output,
@@ -327,8 +497,8 @@ pub fn run_on<R: Read + Drop, L: Ledger>(
         writer: output,
         failure: &failure,
     });
-    let end = run_amounts(rt.alloc(), lines, &mut source, &mut sink, steps);
-    // Where a write failed, not all answers that were counted were taken.
+    let end = run_amounts(rt.alloc(), limit, lines, &mut source, &mut sink, steps);
+    // After a failed write, not all counted answers were written.
     if !is_last(end.status) {
         report_refused(rt, lines, file, &end.refusals, steps);
     }

@@ -1,4 +1,4 @@
-//! `fixed column`: columns of CSV are converted.
+//! `fixed column`: converts columns of CSV.
 
 use crate::commands::amounts;
 use crate::commands::column_words::{
@@ -6,12 +6,13 @@ use crate::commands::column_words::{
 };
 use crate::inputs::{Job, run_inputs};
 use crate::options::{
-    FROM, MODE, PLACES, PLACES_MODE, POLICY, PRINT, RADIX, REPORT, SOURCE, TARGET, TARGET_MODE,
+    FROM, LIMIT, MODE, OUTPUT, PLACES, PLACES_MODE, POLICY, PRINT, RADIX, REPORT, SOURCE, TARGET,
+    TARGET_MODE,
 };
 use crate::settings::{conversion, note_target_mode};
 use command_line::given::{Asked, Given};
 use command_line::page::{Operand, Page, Row};
-use fixed_command::ColumnConversion;
+use fixed_command::{ColumnConversion, Offers};
 use fixed_steps::Steps;
 use line_engine::Status;
 use std::sync::ledger::Ledger;
@@ -117,6 +118,13 @@ pub const EMPTY: Row = Row {
     help: "An empty field: fault (default), keep, or 0",
 };
 
+/// The options for other spellings of numerals.
+pub const OFFERS: Offers = Offers {
+    decimal: true,
+    trim: true,
+    radix: true,
+};
+
 pub fn page() -> Page {
     Page {
         name: "column",
@@ -146,7 +154,9 @@ pub fn page() -> Page {
             EMPTY,
             INTO,
             KEEP,
+            LIMIT,
             REPORT,
+            OUTPUT,
         ],
         end: "A format is I (signed) or U (unsigned), its whole bits, F and its fraction bits,\n\
               as in I16F16 or I-9F25, 1 to 64 bits in all; or as in Q15 and UQ8.8. D0 to D18\n\
@@ -188,5 +198,6 @@ pub fn run<'a, L: Ledger>(
         conversion,
         has_report: given.has(&REPORT),
     };
-    Ok(run_inputs(rt, &job, given.from(files), steps))
+    let format = given.needed(source, "SOURCE")?;
+    run_inputs(rt, &job, format, given, files, steps)
 }

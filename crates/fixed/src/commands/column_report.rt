@@ -1,5 +1,8 @@
-//! What `fixed column` says on standard error of an input.
+//! The reports of `fixed column` on standard error.
 
+use crate::commands::amounts::COLUMN_OFFERS;
+use crate::commands::column::OFFERS;
+use crate::explained::amount_rule;
 use crate::inputs::report_greatest;
 use column_engine::name::write_name;
 use column_engine::place::field_end;
@@ -9,27 +12,28 @@ use command_line::report::{Report, is_broken_pipe, push_words};
 use fixed_amounts::AmountSettings;
 use fixed_command::{
     ColumnConversion, ConvertRule, FieldForm, FieldReport, MAX_TALLY, Place,
-    amount_field_explanation, field_explanation, tally_text,
+    amount_field_explanation, field_explanation, place_name, tally_text,
 };
 use fixed_steps::Steps;
+use line_engine::Status;
 use std::sync::ledger::Ledger;
 use text_buffer::TextBuffer;
 
-/// How many characters of a field, or of a name, a report has.
+/// How many characters of a field or a name a report shows.
 const MAX_TEXT: usize = 40;
 
-/// How many bytes of a field are known at most.
+/// The most bytes of a field that are known.
 const MAX_KEPT: usize = 160;
 
-/// How many bytes of a header are known at most: the last of that many may be within a name.
+/// The most bytes of a header that are known: the last of them may be within a name.
 const MAX_HEADER: usize = 4096;
 
-/// The bytes that are tried as delimiters of a header that lacks a name.
+/// The delimiters that are tried for a header that lacks a name.
 const DELIMITERS: &[u8] = b";\t,|: ";
 
-/// What converts fields, and has more to say of a field that it refuses.
+/// A rule that converts fields and can explain why it refuses one.
 pub trait Explains {
-    /// Appends what more there is to say of a field that is refused for this cause.
+    /// Appends an explanation of a field that is refused for this cause.
     fn explain<L: Ledger>(
         &self,
         form: &FieldForm<'_>,
@@ -49,7 +53,7 @@ impl Explains for ConvertRule {
         report: &mut Report,
         steps: &mut Steps<L>,
     ) {
-        let more = field_explanation(self, form, field, cause, steps);
+        let more = field_explanation(self, OFFERS, form, field, cause, steps);
         report.bytes(more.as_bytes(), 640);
     }
 }
@@ -63,15 +67,21 @@ impl Explains for AmountSettings {
         report: &mut Report,
         steps: &mut Steps<L>,
     ) {
-        let more = amount_field_explanation(self, form, field, cause, steps);
-        report.bytes(more.as_bytes(), 640);
+        if cause == b"overflow".as_slice() {
+            let more = amount_field_explanation(self, form, field, cause, steps);
+            report.bytes(more.as_bytes(), 640);
+        } else {
+            let rule = amount_rule(self.spelling);
+            let more = field_explanation(&rule, COLUMN_OFFERS, form, field, cause, steps);
+            report.bytes(more.as_bytes(), 640);
+        }
     }
 }
 
 /// A name of a header.
 type Name = TextBuffer<MAX_HEADER>;
 
-/// The names of a header that are known.
+/// The known names of a header.
 #[derive(Drop)]
 struct Names<'h> {
     delimiter: u8,
@@ -80,7 +90,7 @@ struct Names<'h> {
 }
 
 impl<'h> Names<'h> {
-    /// The names of these bytes of a header.
+    /// The names in these bytes of a header.
     fn new(delimiter: u8, header: &'h [u8]) -> Names<'h> {
         Names {
             delimiter,
@@ -89,7 +99,7 @@ impl<'h> Names<'h> {
         }
     }
 
-    /// Writes out the next name, as COLUMNS names it. False if no more is known.
+    /// Writes the next name, as COLUMNS names it. Returns false if no more is known.
     fn next_name(&mut self, name: &mut Name) -> bool {
         let rest = match self.rest {
             Some(rest) => rest,
@@ -104,7 +114,7 @@ impl<'h> Names<'h> {
         true
     }
 
-    /// Whether one of the names is this one.
+    /// Whether one of the names is `wanted`.
     fn has(mut self, wanted: &[u8]) -> bool {
         let mut name = Name::new();
         for _ in 0..MAX_HEADER {
@@ -118,7 +128,7 @@ impl<'h> Names<'h> {
         false
     }
 
-    /// Whether there is one name only, as far as is known.
+    /// Whether there is only one name, as far as is known.
     fn is_one(&self) -> bool {
         match self.rest {
             Some(rest) => field_end(self.delimiter, rest) == rest.len(),
@@ -127,14 +137,14 @@ impl<'h> Names<'h> {
     }
 }
 
-/// Appends a text between quotes, cut where it is long.
+/// Appends a text between quotes, cut if it is long.
 fn push_quoted(report: &mut Report, text: &[u8]) {
     report.text("'");
     report.name(text, MAX_TEXT);
     report.text("'");
 }
 
-/// Appends a column: its name where it is known, and else its number.
+/// Appends a column: its name if it is known, else its number.
 fn push_column(report: &mut Report, column: usize, delimiter: u8, header: Option<&[u8]>) {
     if let Some(header) = header {
         let mut names = Names::new(delimiter, header);
@@ -152,7 +162,7 @@ fn push_column(report: &mut Report, column: usize, delimiter: u8, header: Option
     report.number((column as u64).saturating_add(1));
 }
 
-/// Appends which field was refused first, its text and the cause.
+/// Appends the position, the text and the cause of the first refused field.
 fn push_first<R: Explains, L: Ledger>(
     report: &mut Report,
     conversion: &ColumnConversion<'_, R>,
@@ -171,7 +181,7 @@ fn push_first<R: Explains, L: Ledger>(
     push_quoted(report, text);
     report.text(": ");
     report.bytes(cause, 160);
-    // Of a text that may be cut no more is said.
+    // A text that may be cut is not explained.
     if text.len() < MAX_KEPT {
         conversion
             .rule
@@ -188,7 +198,7 @@ fn push_missing(report: &mut Report, columns: &[Column], word: usize) {
     }
 }
 
-/// Appends the names that a header has.
+/// Appends the names in a header.
 fn push_names(report: &mut Report, delimiter: u8, header: &[u8]) {
     let mut names = Names::new(delimiter, header);
     let mut name = Name::new();
@@ -207,7 +217,7 @@ fn push_names(report: &mut Report, delimiter: u8, header: &[u8]) {
     }
 }
 
-/// Appends the delimiter with which a header of one field has the missing name, if there is one.
+/// Appends the delimiter that gives a header of one field the missing name, if any.
 fn push_delimiter(report: &mut Report, delimiter: u8, header: &[u8], wanted: &[u8]) {
     if !Names::new(delimiter, header).is_one() {
         return;
@@ -229,7 +239,7 @@ fn push_delimiter(report: &mut Report, delimiter: u8, header: &[u8], wanted: &[u
     }
 }
 
-/// Appends what a header has that lacks a name.
+/// Appends the names in a header that lacks one, and the delimiter that would give it, if any.
 fn push_header<R>(report: &mut Report, known: &Known<'_, R>, header: &[u8]) {
     let delimiter = known.conversion.delimiter;
     push_names(report, delimiter, header);
@@ -238,7 +248,7 @@ fn push_header<R>(report: &mut Report, known: &Known<'_, R>, header: &[u8]) {
     }
 }
 
-/// Appends why the records of a text ended before its end.
+/// Appends why a run stopped before the end of a text.
 fn push_stop(report: &mut Report, columns: &[Column], watch: &ColumnWatch, end: &ColumnEnd) {
     match end.stop {
         Stop::Done => (),
@@ -254,7 +264,7 @@ fn push_stop(report: &mut Report, columns: &[Column], watch: &ColumnWatch, end: 
     }
 }
 
-/// Appends what is wrong with the record at which a text ended.
+/// Appends the fault of the record at which a run stopped.
 fn push_record_fault(report: &mut Report, end: &ColumnEnd) {
     match end.stop {
         Stop::TooLong => report.text(" is longer than 1048576 bytes"),
@@ -267,8 +277,8 @@ fn push_record_fault(report: &mut Report, end: &ColumnEnd) {
     }
 }
 
-/// Says on standard error how many fields of a file were refused, and which was the first. Where a write failed it says
-/// nothing, since not all that was answered was written.
+/// Reports on standard error how many fields of a file were refused, and the first. After a failed write it reports
+/// nothing, since not all answers were written.
 fn report_refused<R: Explains, L: Ledger>(
     rt: &HostRuntime,
     file: Option<&str>,
@@ -291,7 +301,7 @@ fn report_refused<R: Explains, L: Ledger>(
     report.send(rt);
 }
 
-/// Appends the line and the column of a first field, where there is one.
+/// Appends the line and the column of a first field, if any.
 fn push_place<R>(
     report: &mut Report,
     what: &str,
@@ -307,8 +317,8 @@ fn push_place<R>(
     }
 }
 
-/// Says on standard error how the fields of a file came through, where that is asked. Where a write failed it says
-/// nothing, since not all that was answered was written.
+/// Reports on standard error the outcomes of the fields of a file, if requested. After a failed write it reports
+/// nothing, since not all answers were written.
 fn report_fields<R, L: Ledger>(
     rt: &HostRuntime,
     file: Option<&str>,
@@ -340,24 +350,50 @@ fn report_fields<R, L: Ledger>(
         header,
     );
     report.send(rt);
-    report_greatest(rt, file, &fields.errors(), Place::Record, steps);
+    if let Some(errors) = &fields.errors() {
+        report_greatest(
+            rt,
+            file,
+            errors,
+            place_name(Place::Record).as_bytes(),
+            steps,
+        );
+    }
 }
 
-/// What is known of a file whose columns were converted.
+/// What is known of the converted columns of a file.
 #[derive(Drop)]
 pub struct Known<'a, R> {
-    /// How they were.
+    /// The conversion.
     pub conversion: &'a ColumnConversion<'a, R>,
-    /// What there is to report of its records.
+    /// What was kept of its records for reports.
     pub watch: &'a ColumnWatch,
-    /// How its fields came through, where that is asked.
+    /// The outcomes of its fields, if requested.
     pub report: Option<&'a FieldReport<'a>>,
     /// How its records ended.
     pub end: &'a ColumnEnd,
+    /// Whether the read that failed was past the limit.
+    pub is_exceeded: bool,
 }
 
-/// Says on standard error how many fields of a file were refused, and which was the first; how they came through, where
-/// that is asked; and why its records ended before its end, with how many lines were written by then if a write failed.
+impl<'a, R> Known<'a, R> {
+    /// Whether the records ended at the limit of the file.
+    fn is_too_long(&self) -> bool {
+        self.is_exceeded && self.end.stop == Stop::ReadFault
+    }
+
+    /// Returns the status of the conversion.
+    pub fn status(&self) -> Status {
+        if self.is_too_long() {
+            Status::TooLong
+        } else {
+            self.end.status()
+        }
+    }
+}
+
+/// Reports on standard error how many fields of a file were refused, and the first; their outcomes, if requested; and
+/// why its records ended early, with the count of lines written if a write failed.
 pub fn report_end<R: Explains, L: Ledger>(
     rt: &HostRuntime,
     file: Option<&str>,
@@ -379,12 +415,16 @@ pub fn report_end<R: Explains, L: Ledger>(
         return;
     }
     let mut report = Report::of(file);
-    push_stop(&mut report, &known.conversion.columns, known.watch, end);
+    if known.is_too_long() {
+        report.text("the input is longer than the limit");
+    } else {
+        push_stop(&mut report, &known.conversion.columns, known.watch, end);
+    }
     if let Some(error) = &error {
         report.text(": ");
         push_words(&mut report, rt.alloc(), error);
     }
-    // Where a write failed, not all records that were answered were taken.
+    // After a failed write, not all answered records were written.
     match end.stop {
         Stop::WriteFault => {
             report.text(", lines answered: ");

@@ -1,4 +1,4 @@
-//! What the words of `fixed column` ask for.
+//! The requests in the arguments of `fixed column`.
 
 ghost use Rattle.std.specs.Prelude.{◌≡◌, ◌==◌, ◌<◌, ◌+◌, ◌^◌, ◌⊎◌, ◌&&◌, ◌++◌, ◌∷◌, [], Bool, ℕ, not};
 ghost use Rattle.std.specs.Prelude.{IfErr, IfOk, List, MatchOption, OnOk, chars, codes, decimal, length};
@@ -11,8 +11,9 @@ ghost use Rattle.command_line.specs.Words.{value_of};
 ghost use Rattle.command_line.specs.declared.given.Refusal.{Refusal};
 ghost use Rattle.fixed.specs.Columns.{AreColumnWords, AreColumnsAsked, AreColumnsOf, IsByName, IsColumnWord};
 ghost use Rattle.fixed.specs.Columns.{IsDecimalWord, IsDelimiterWord, IsDestinationAsked, IsFormAsked, IsMarkAsked};
-ghost use Rattle.fixed.specs.Columns.{IsOneWord, IsRangeWord, IsSkipWord, IsThousandsAsked, IsThousandsWord};
+ghost use Rattle.fixed.specs.Columns.{IsOneWord, IsRangeWord, IsThousandsAsked, IsThousandsWord};
 ghost use Rattle.fixed.specs.Columns.{IsSpan, empty_text, is_separator};
+ghost use Rattle.fixed.specs.Settings.{IsCountWord};
 ghost use Rattle.fixed_command.specs.Asked.{IsNamed};
 ghost use Rattle.fixed_command.specs.declared.field.Empty.{Empty};
 ghost use Rattle.fixed_command.specs.declared.field.FieldForm.{FieldForm};
@@ -21,14 +22,14 @@ use crate::commands::column::{
     ALL, DECIMAL, DECIMAL_OUT, DELIMITER, EMPTY, HEADER, INTO, SKIP, THOUSANDS, THOUSANDS_ANYWHERE,
     TRIM,
 };
-use crate::settings::{count_named, known, value_or};
+use crate::settings::{count_named, count_of, known, value_or};
 use column_engine::{Column, Destination, MAX_NAME, Range};
 use command_line::given::{Asked, Given, Refusal};
 use fixed_command::{Empty, FieldForm};
 use std::alloc::{AllocError, Global};
 use text_buffer::TextBuffer;
 
-/// The delimiter that a word names.
+/// Returns the delimiter that a value names.
 fn delimiter_named<'a>(word: &'a str) -> Asked<'a, u8>
     ensures value { IfOk result (λ a. IsDelimiterWord word.now a) }
     ensures refused { IfErr result (λ _. (a : ℕ) → ¬ IsDelimiterWord word.now a) }
@@ -44,7 +45,7 @@ fn delimiter_named<'a>(word: &'a str) -> Asked<'a, u8>
     }
 }
 
-/// The delimiter that the option names: a comma where it is left out.
+/// Returns the delimiter that the option names, or a comma without the option.
 pub fn delimiter_of<'a>(given: &Given<'_, 'a>) -> Asked<'a, u8>
     ensures value { IfOk result (λ a.
         IsDelimiterWord (unwrap_or (value_of given.now (codes "delimiter")) (codes ",")) a) }
@@ -54,29 +55,30 @@ pub fn delimiter_of<'a>(given: &Given<'_, 'a>) -> Asked<'a, u8>
     delimiter_named(value_or(given, &DELIMITER, ","))
 }
 
-/// How many lines come before the records: a number in decimal, without a sign or a leading zero; 0 where the option is
-/// left out.
+/// Returns how many lines come before the records: a decimal number without a sign or a leading zero; 0 without the
+/// option.
 pub fn skipped_of<'a>(given: &Given<'_, 'a>) -> Asked<'a, u64>
     ensures value { IfOk result (λ a.
-        IsSkipWord (unwrap_or (value_of given.now (codes "skip")) (codes "0")) a) }
+        IsCountWord (unwrap_or (value_of given.now (codes "skip")) (codes "0")) a) }
     ensures refused { IfErr result (λ _. (a : ℕ)
-        → ¬ IsSkipWord (unwrap_or (value_of given.now (codes "skip")) (codes "0")) a) }
+        → ¬ IsCountWord (unwrap_or (value_of given.now (codes "skip")) (codes "0")) a) }
 {
-    let word = value_or(given, &SKIP, "0");
-    match count_named(word) {
-        Some(count) => Ok(count),
-        None => Err(Refusal::Word(word, "is not a count of lines: it is a number from 0")),
-    }
+    count_of(
+        given,
+        &SKIP,
+        "0",
+        "is not a count of lines: it is a number from 0",
+    )
 }
 
-/// Whether a byte is in no numeral, or a point.
+/// Whether a byte cannot occur in a numeral or is a point.
 fn is_separator(byte: u8) -> bool
     ensures { result ≡ is_separator byte }
 {
     !byte.is_ascii_alphanumeric() && !matches!(byte, b'+' | b'-' | b'@')
 }
 
-/// The byte before a fraction that a word names: none that a numeral has.
+/// Returns the byte before a fraction that a value names: a point, or a byte that is neither a blank nor in numerals.
 fn decimal_named<'a>(word: &'a str) -> Asked<'a, u8>
     ensures value { IfOk result (λ a. IsDecimalWord word.now a) }
     ensures refused { IfErr result (λ _. (a : ℕ) → ¬ IsDecimalWord word.now a) }
@@ -90,8 +92,8 @@ fn decimal_named<'a>(word: &'a str) -> Asked<'a, u8>
     }
 }
 
-/// The byte before a fraction that the option names: a point where it is left out.
-fn decimal_of<'a>(given: &Given<'_, 'a>) -> Asked<'a, u8>
+/// Returns the byte before a fraction that the option names, or a point without the option.
+pub fn decimal_of<'a>(given: &Given<'_, 'a>) -> Asked<'a, u8>
     ensures value { IfOk result (λ a.
         IsDecimalWord (unwrap_or (value_of given.now (codes "decimal")) (codes ".")) a) }
     ensures refused { IfErr result (λ _. (a : ℕ)
@@ -100,7 +102,7 @@ fn decimal_of<'a>(given: &Given<'_, 'a>) -> Asked<'a, u8>
     decimal_named(value_or(given, &DECIMAL, "."))
 }
 
-/// The byte before the fraction of an answer: the one of fields where the option is left out.
+/// Returns the byte before the fraction of an answer: that of fields without the option.
 fn mark_of<'a>(given: &Given<'_, 'a>) -> Asked<'a, u8>
     ensures value { IfOk result (λ a. IsMarkAsked (value_of given.now (codes "decimal-out"))
         (value_of given.now (codes "decimal")) a) }
@@ -120,21 +122,21 @@ fn is_one_character(word: &str) -> bool
     word.chars().count() == 1
 }
 
-/// Whether all of some bytes are in no numeral, or points.
+/// Whether each byte cannot occur in a numeral or is a point.
 fn are_separators(bytes: &[u8]) -> bool
     ensures { result ≡ list_all is_separator bytes.now }
 {
     bytes.iter().all(|b| is_separator(*b))
 }
 
-/// Whether a byte is among some.
+/// Whether `bytes` contains `byte`.
 fn has_byte(bytes: &[u8], byte: u8) -> bool
     ensures { result ≡ list_any (λ b. b == byte) bytes.now }
 {
     bytes.iter().any(|b| *b == byte)
 }
 
-/// The bytes that separate thousands: those of the character that a word is.
+/// Returns the bytes of the character that separates thousands.
 fn thousands_named<'a>(word: &'a str, decimal: u8) -> Asked<'a, &'a [u8]>
     ensures value { IfOk result (λ a. (a.now ≡ word.now) × IsThousandsWord decimal word.now) }
     ensures refused { IfErr result (λ _. ¬ IsThousandsWord decimal word.now) }
@@ -154,8 +156,8 @@ fn thousands_named<'a>(word: &'a str, decimal: u8) -> Asked<'a, &'a [u8]>
     Ok(word.as_bytes())
 }
 
-/// What separates thousands: the bytes of the character that one of the two options names, and whether they stand only
-/// between groups.
+/// Returns the separator of thousands from the two options, one of which may be given: its bytes, and whether it stands
+/// only between groups.
 fn thousands_of<'a>(given: &Given<'_, 'a>, decimal: u8) -> Asked<'a, (&'a [u8], bool)>
     ensures value { IfOk result (λ a. IsThousandsAsked decimal (value_of given.now (codes "thousands"))
         (value_of given.now (codes "thousands-anywhere")) a.0.now a.1) }
@@ -179,7 +181,7 @@ fn thousands_of<'a>(given: &Given<'_, 'a>, decimal: u8) -> Asked<'a, (&'a [u8], 
     }
 }
 
-/// What a word says becomes of an empty field.
+/// Returns what to do with an empty field, from a value.
 fn empty_named(word: &str) -> Option<Empty>
     ensures { MatchOption result ((a : Empty) → ¬ (word.now ≡ empty_text a)) (λ a. word.now ≡ empty_text a) }
 {
@@ -191,7 +193,7 @@ fn empty_named(word: &str) -> Option<Empty>
     }
 }
 
-/// What the option says becomes of an empty field. It is refused where the option is left out.
+/// Returns what to do with an empty field, from the option. Without it the field is refused.
 fn empty_of<'a>(given: &Given<'_, 'a>) -> Asked<'a, Empty>
     ensures value { IfOk result (λ a. IsNamed Empty empty_text Empty.Refused (value_of given.now (codes "empty")) a) }
     ensures refused { IfErr result (λ _. (a : Empty)
@@ -203,7 +205,7 @@ fn empty_of<'a>(given: &Given<'_, 'a>) -> Asked<'a, Empty>
     }
 }
 
-/// How a field spells a numeral, as the options say.
+/// Returns how a field spells a numeral, from the options.
 pub fn form_of<'a>(given: &Given<'_, 'a>) -> Asked<'a, FieldForm<'a>>
     ensures value { IfOk result (λ form. IsFormAsked given.now form) }
     ensures refused { IfErr result (λ _. (form : FieldForm) → ¬ IsFormAsked given.now form) }
@@ -224,7 +226,7 @@ pub fn form_of<'a>(given: &Given<'_, 'a>) -> Asked<'a, FieldForm<'a>>
     })
 }
 
-/// The place that a word numbers, from 0, where it is the number of a column.
+/// Returns the index of the column that `word` numbers, if it is a number from 1.
 fn place_numbered(word: &str) -> Option<usize>
     ensures { MatchOption result ((at : ℕ) → at + 1 < 2 ^ 64 → ¬ (word.now ≡ decimal (at + 1)))
         (λ at. (at + 1 < 2 ^ 64) × (word.now ≡ decimal (at + 1))) }
@@ -235,7 +237,7 @@ fn place_numbered(word: &str) -> Option<usize>
     }
 }
 
-/// The one column that a word numbers, where it does.
+/// Returns the column that `word` numbers, if it is a number from 1.
 fn one_numbered(word: &str) -> Option<Range>
     ensures { MatchOption result ((r : Range) → ¬ IsOneWord word.now r) (λ r. IsOneWord word.now r) }
 {
@@ -243,7 +245,7 @@ fn one_numbered(word: &str) -> Option<Range>
     Some(Range { from: at, to: at })
 }
 
-/// The columns from one that a word numbers to one that another does.
+/// Returns the columns from the number `first` to the number `last`, if these are in order.
 fn span_numbered(first: &str, last: &str) -> Option<Range>
     ensures { MatchOption result ((r : Range) → ¬ IsSpan first.now last.now r) (λ r. IsSpan first.now last.now r) }
 {
@@ -256,7 +258,7 @@ fn span_numbered(first: &str, last: &str) -> Option<Range>
     }
 }
 
-/// The columns that a word numbers: one, or a range of them.
+/// Returns the columns that `word` numbers: one, or a range.
 fn range_numbered(word: &str) -> Option<Range>
     ensures { MatchOption result ((r : Range) → ¬ IsRangeWord word.now r) (λ r. IsRangeWord word.now r) }
 {
@@ -266,7 +268,7 @@ fn range_numbered(word: &str) -> Option<Range>
     }
 }
 
-/// Where the answers go: into a new column where the option names one.
+/// Returns where the answers go: into a new column if the option names one.
 pub fn destination_of<'a>(given: &Given<'_, 'a>) -> Asked<'a, Destination>
     ensures value { IfOk result (λ a. IsDestinationAsked given.now a) }
     ensures refused { IfErr result (λ _. (a : Destination) → ¬ IsDestinationAsked given.now a) }
@@ -286,7 +288,7 @@ pub fn destination_of<'a>(given: &Given<'_, 'a>) -> Asked<'a, Destination>
     Ok(Destination::NewColumn(text))
 }
 
-/// A column of this name, or else the range that the name is read as.
+/// Returns a request for the column with this name, or else for the range that the name is read as.
 fn by_name<'a>(alloc: Global, word: &'a str, range: Option<Range>) -> Asked<'a, Column>
     ensures value { IfOk result (λ a. IsByName word.now range a) }
     ensures refused { IfErr result (λ e. e ≡ Refusal.NoMemory) }
@@ -297,7 +299,7 @@ fn by_name<'a>(alloc: Global, word: &'a str, range: Option<Range>) -> Asked<'a, 
     }
 }
 
-/// The one column whose answers go into a new one.
+/// Returns the one column whose answers go into a new column.
 fn source_of<'a>(alloc: Global, word: &'a str, is_name: bool) -> Asked<'a, Column>
     ensures value { IfOk result (λ a. IsColumnWord IsOneWord is_name word.now a) }
     ensures refused { IfErr result (λ e. (e ≡ Refusal.NoMemory)
@@ -313,7 +315,7 @@ fn source_of<'a>(alloc: Global, word: &'a str, is_name: bool) -> Asked<'a, Colum
     }
 }
 
-/// The columns that one word of a list names.
+/// Returns the columns that one item of a list names.
 fn column_of<'a>(alloc: Global, word: &'a str, has_header: bool) -> Asked<'a, Column>
     ensures value { IfOk result (λ a. IsColumnWord IsRangeWord has_header word.now a) }
     ensures refused { IfErr result (λ e. (e ≡ Refusal.NoMemory)
@@ -346,14 +348,14 @@ fn push<'a>(columns: &mut Vec<Column>, column: Column) -> Asked<'a, ()>
     }
 }
 
-/// The parts of a word between its commas.
+/// Splits a list at its commas.
 fn parts_of<'a>(alloc: Global, words: &'a str) -> Result<Vec<&'a str>, AllocError>
     ensures { IfOk result (λ parts. map (λ s. s.now) parts.items ≡ slice_split (λ b. b == 44) words.now) }
 {
     words.split(',').collect(alloc)
 }
 
-/// The columns that a list of words names, with commas between.
+/// Returns the columns that a list with commas names.
 fn listed<'a>(alloc: Global, words: &'a str, has_header: bool) -> Asked<'a, Vec<Column>>
     ensures value { IfOk result (λ a. AreColumnWords has_header (slice_split (λ b. b == 44) words.now) a.items) }
     ensures refused { IfErr result (λ e. (e ≡ Refusal.NoMemory) ⊎ ((a : List Column)
@@ -374,14 +376,14 @@ fn listed<'a>(alloc: Global, words: &'a str, has_header: bool) -> Asked<'a, Vec<
     Ok(columns)
 }
 
-/// Whether a word may be the name of a column: it has no comma.
+/// Whether an operand may be the name of a column under a header: it has no comma.
 fn is_name(word: &str, has_header: bool) -> bool
     ensures { result ≡ (has_header && not (list_any (λ b. b == 44) word.now)) }
 {
     has_header && !has_byte(word.as_bytes(), b',')
 }
 
-/// The columns that a word names: one where its answers go into a new one.
+/// Returns the columns that an operand names: just one if its answers go into a new column.
 fn named<'a>(alloc: Global, word: &'a str, is_one: bool, has_header: bool) -> Asked<'a, Vec<Column>>
     ensures value { IfOk result (λ a. AreColumnsOf is_one has_header word.now a.items) }
     ensures refused { IfErr result (λ e. (e ≡ Refusal.NoMemory)
@@ -399,7 +401,7 @@ fn named<'a>(alloc: Global, word: &'a str, is_one: bool, has_header: bool) -> As
     Ok(columns)
 }
 
-/// The columns that a command names, and the place of the word that follows them.
+/// Returns the requested columns, and the index of the operand after them.
 pub fn columns_of<'a>(alloc: Global, given: &Given<'_, 'a>) -> Asked<'a, (Vec<Column>, usize)>
     ensures value { IfOk result (λ a. AreColumnsAsked given.now a.0.items a.1) }
     ensures refused { IfErr result (λ e. (e ≡ Refusal.NoMemory) ⊎ ((columns : List Column) (next : ℕ)

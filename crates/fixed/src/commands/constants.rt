@@ -1,18 +1,24 @@
-//! `fixed constants`: named literals in one form, or a list of them or of numerals as an array or as a memory's file.
+//! `fixed constants`: writes named literals in one form, or a list of them or of numerals as an array or a memory file.
 
-ghost use Rattle.std.specs.Prelude.{◌≡◌, IfErr, IfOk, List, MatchOption, codes, ℕ};
+ghost use Rattle.std.specs.Prelude.{◌≡◌, IfErr, IfOk, List, MatchOption, None, codes, ℕ};
 ghost use Rattle.command_line.specs.Words.{keyword_at, value_of};
 ghost use Rattle.fixed.specs.Constants.{IsArrayAsked, IsArrayWord, IsFormAsked, IsGuardAsked, IsNameAsked};
-ghost use Rattle.fixed.specs.Constants.{IsNumeralsAsked, is_file};
+ghost use Rattle.fixed.specs.Constants.{HasNoListOption, HasNoNumeralOption};
+ghost use Rattle.fixed.specs.Constants.{IsNumeralsAsked, is_c, is_file};
 ghost use Rattle.fixed_arrays.specs.declared.form.ArrayForm.{ArrayForm};
 ghost use Rattle.fixed_arrays.specs.declared.rule.Numerals.{Numerals};
 
-use crate::options::{MODE, POLICY, RADIX};
+use crate::commands::column::DECIMAL;
+use crate::commands::column_words::decimal_of;
+use crate::options::{LIMIT, MODE, OUTPUT, POLICY, RADIX};
 use crate::product::{Product, run_product};
-use crate::settings::{format_of, mode_of, policy_of, radix_of};
+use crate::settings::{format_of, mode_of, policy_of, radix_of, refuse_value};
 use command_line::given::{Asked, Given, Refusal};
 use command_line::page::{Operand, Page, Row};
-use fixed_arrays::{ArrayForm, ArrayRule, LiteralArrayRule, Numerals, is_array_name, is_kept};
+use fixed_arrays::{
+    ArrayForm, ArrayRule, LiteralArrayRule, Numerals, is_array_name, is_c_name, is_kept,
+};
+use fixed_command::SwappedRule;
 use fixed_constants::{Form, FormRule, is_guard};
 use fixed_steps::Steps;
 use line_engine::Status;
@@ -50,6 +56,9 @@ const NAME: Row = Row {
 /// Why an option has no meaning without a list.
 const FOR_LISTS: &str = "is for a list: array-c, array-rust, vhdl, readmemh, coe or mif";
 
+/// Why an option has no meaning without numerals.
+const FOR_NUMERALS: &str = "is for numerals, which --numerals FORMAT asks for";
+
 /// Why a word cannot be the form of a list.
 const NO_LIST: &str = "is not a form of a list: array-c, array-rust, vhdl, readmemh, coe or mif";
 
@@ -62,8 +71,12 @@ pub fn page() -> Page {
                 fixed constants FORM [--numerals FORMAT] [--name NAME] [FILE]...",
         operands: &[WORDS],
         has_numerals: false,
-        options: &[GUARD, NUMERALS, NAME, RADIX, POLICY, MODE],
-        end: "FORM is array-c, array-rust or vhdl, an array with a name, or readmemh, coe or\n\
+        options: &[
+            GUARD, NUMERALS, NAME, DECIMAL, RADIX, POLICY, MODE, LIMIT, OUTPUT,
+        ],
+        end: "A line is NAME = LITERAL FORMAT, with any blanks, and a comment from '#' on.\n\
+              \n\
+              FORM is array-c, array-rust or vhdl, an array with a name, or readmemh, coe or\n\
               mif, a file that a memory starts from: of the numbers of named literals, which\n\
               have one format, or with --numerals of numerals, one a line. The numbers of an\n\
               array are integers of 8, 16, 32 or 64 bits, in VHDL and in a memory words of the\n\
@@ -76,8 +89,8 @@ pub fn page() -> Page {
     }
 }
 
-/// The form that the first word names, and the place of the first file. A file of such a name is written `./c`, or
-/// after `--`.
+/// Returns the form that the first operand names, and the index of the first file. A file with such a name is written
+/// `./c`, or after `--`.
 fn form_and_files(given: &Given<'_, '_>) -> (Form, usize)
     ensures { IsFormAsked (keyword_at given.now 0) result.0 result.1 }
 {
@@ -88,7 +101,7 @@ fn form_and_files(given: &Given<'_, '_>) -> (Form, usize)
     }
 }
 
-/// The guard that the option names: the empty text where it is left out.
+/// Returns the guard that the option names, empty without the option.
 fn guard_of<'a>(given: &Given<'_, 'a>, is_header: bool) -> Asked<'a, &'a str>
     ensures value { IfOk result (λ a. IsGuardAsked is_header (value_of given.now (codes "guard")) a.now) }
     ensures refused { IfErr result (λ _. (a : List ℕ)
@@ -108,7 +121,7 @@ fn guard_of<'a>(given: &Given<'_, 'a>, is_header: bool) -> Asked<'a, &'a str>
     }
 }
 
-/// What a word has a list of numbers written as, without a guard.
+/// Returns the form of a list that a word names, without a guard.
 fn array_named(word: &str) -> Option<ArrayForm>
     ensures { MatchOption result ((a : ArrayForm) → ¬ IsArrayWord word.now a) (λ a. IsArrayWord word.now a) }
 {
@@ -123,7 +136,7 @@ fn array_named(word: &str) -> Option<ArrayForm>
     }
 }
 
-/// What the first word has a list of numbers written as, without a guard.
+/// Returns the form of a list that the first operand names, without a guard.
 fn array_form(given: &Given<'_, '_>) -> Option<ArrayForm>
     ensures { MatchOption result ((a : ArrayForm) → ¬ IsArrayAsked (keyword_at given.now 0) a)
         (λ a. IsArrayAsked (keyword_at given.now 0) a) }
@@ -134,23 +147,32 @@ fn array_form(given: &Given<'_, '_>) -> Option<ArrayForm>
     }
 }
 
-/// Whether a list of a form is the file of a memory.
+/// Whether a list in this form is a memory file.
 fn is_file(form: ArrayForm) -> bool
     ensures { result ≡ is_file form }
 {
     matches!(form, ArrayForm::Readmemh | ArrayForm::Coe | ArrayForm::Mif)
 }
 
-/// Why a list of a form cannot have a name.
-fn why_no_name(form: ArrayForm, name: &str) -> &'static str {
+/// Whether a list in this form is an array of C.
+fn is_c(form: ArrayForm) -> bool
+    ensures { result ≡ is_c form }
+{
+    matches!(form, ArrayForm::C)
+}
+
+/// Returns why a list in this form cannot have this name.
+fn why_no_name(form: ArrayForm, guard: &str, name: &str) -> &'static str {
     if form == ArrayForm::C && is_kept(name.as_bytes()) {
         "can name no array: C keeps names with two underscores side by side, or an underscore and a capital first"
+    } else if form == ArrayForm::C && is_c_name(guard.as_bytes(), name.as_bytes()) {
+        "can name no array: with _COUNT or _FRAC it is longer than 64 bytes, or C keeps it, or it is the guard"
     } else {
         "can name no array: it is not a name, or the language reserves it, or it is the guard"
     }
 }
 
-/// The name of a list: the empty text for the file of a memory.
+/// Returns the name of a list, empty for a memory file.
 fn name_of<'a>(given: &Given<'_, 'a>, form: ArrayForm, guard: &str) -> Asked<'a, &'a str>
     ensures value { IfOk result (λ a. IsNameAsked form guard.now (value_of given.now (codes "name")) a.now) }
     ensures refused { IfErr result (λ _. (a : List ℕ)
@@ -165,11 +187,11 @@ fn name_of<'a>(given: &Given<'_, 'a>, form: ArrayForm, guard: &str) -> Asked<'a,
             "names nothing: a memory's file has no name",
         )),
         Some(name) if is_array_name(form, guard.as_bytes(), name.as_bytes()) => Ok(name),
-        Some(name) => Err(Refusal::Word(name, why_no_name(form, name))),
+        Some(name) => Err(Refusal::Word(name, why_no_name(form, guard, name))),
     }
 }
 
-/// How the numerals of a list are read, into the format that a word names.
+/// Returns how the numerals of a list are read, into the format that a word names.
 fn numerals_of<'a>(given: &Given<'_, 'a>, word: &'a str) -> Asked<'a, Numerals>
     ensures value { IfOk result (λ a. IsNumeralsAsked given.now word.now a) }
     ensures refused { IfErr result (λ _. (a : Numerals) → ¬ IsNumeralsAsked given.now word.now a) }
@@ -186,30 +208,68 @@ fn numerals_of<'a>(given: &Given<'_, 'a>, word: &'a str) -> Asked<'a, Numerals>
     })
 }
 
-/// Refuses an option that has no meaning here, and says why.
-fn refuse_option<'a>(given: &Given<'_, 'a>, row: &Row, cause: &'static str) -> Asked<'a, ()> {
-    match given.value(row) {
-        None => Ok(()),
-        Some(_) => Err(Refusal::Option(row.name, cause)),
-    }
-}
-
-/// Refuses the options of a list where the first word is no form of one: by that word, unless it is another form.
-fn refuse_list<'a>(given: &Given<'_, 'a>) -> Asked<'a, ()> {
-    for row in [&NUMERALS, &NAME, &RADIX, &POLICY, &MODE] {
-        match given.keyword(0) {
-            Some(word) if word != "c" && word != "rust" && given.value(row).is_some() => {
-                return Err(Refusal::Word(word, NO_LIST));
-            }
-            _ => refuse_option(given, row, FOR_LISTS)?,
+/// Refuses an option of a list if the first operand is not a form of one: by this operand, unless it is another form.
+fn refuse_of_list<'a>(given: &Given<'_, 'a>, row: &Row) -> Asked<'a, ()>
+    ensures value { IfOk result (λ _. value_of given.now row.now.name.now ≡ None) }
+    ensures refused { IfErr result (λ _. ¬ (value_of given.now row.now.name.now ≡ None)) }
+{
+    match given.keyword(0) {
+        Some(word) if word != "c" && word != "rust" && given.value(row).is_some() => {
+            Err(Refusal::Word(word, NO_LIST))
         }
+        _ => refuse_value(given, row, FOR_LISTS),
     }
-    Ok(())
 }
 
-/// The list of the numerals of all files, or, where none are asked for, of their named literals.
+/// Refuses the options of a list if the first operand is not a form of one.
+fn refuse_list<'a>(given: &Given<'_, 'a>) -> Asked<'a, ()>
+    ensures value { IfOk result (λ _. HasNoListOption given.now) }
+    ensures refused { IfErr result (λ _. ¬ HasNoListOption given.now) }
+{
+    refuse_of_list(given, &NUMERALS)?;
+    refuse_of_list(given, &NAME)?;
+    refuse_of_list(given, &DECIMAL)?;
+    refuse_of_list(given, &RADIX)?;
+    refuse_of_list(given, &POLICY)?;
+    refuse_of_list(given, &MODE)
+}
+
+/// Refuses the options of numerals for a list of named literals.
+fn refuse_numerals<'a>(given: &Given<'_, 'a>) -> Asked<'a, ()>
+    ensures value { IfOk result (λ _. HasNoNumeralOption given.now) }
+    ensures refused { IfErr result (λ _. ¬ HasNoNumeralOption given.now) }
+{
+    refuse_value(given, &DECIMAL, FOR_NUMERALS)?;
+    refuse_value(given, &RADIX, FOR_NUMERALS)?;
+    refuse_value(given, &POLICY, FOR_NUMERALS)?;
+    refuse_value(given, &MODE, FOR_NUMERALS)
+}
+
+/// Returns the list of the numerals of all files, read into the format that a word names, in the form of `list`.
+fn numeral_list<'a>(
+    given: &Given<'_, 'a>,
+    word: &'a str,
+    list: LiteralArrayRule<'a>,
+) -> Asked<'a, Product<'a>> {
+    let numerals = match numerals_of(given, word) {
+        Ok(numerals) => numerals,
+        Err(refusal) => return Err(refusal),
+    };
+    let rule = ArrayRule {
+        form: list.form,
+        numerals,
+        name: list.name,
+        guard: list.guard,
+    };
+    match decimal_of(given) {
+        Ok(decimal) => Ok(Product::List(SwappedRule { rule, decimal })),
+        Err(refusal) => Err(refusal),
+    }
+}
+
+/// Returns the list of the numerals of all files, or of their named literals if no numerals are requested.
 fn list_of<'a>(given: &Given<'_, 'a>, form: ArrayForm) -> Asked<'a, Product<'a>> {
-    let guard = guard_of(given, form == ArrayForm::C)?;
+    let guard = guard_of(given, is_c(form))?;
     let name = name_of(given, form, guard)?.as_bytes();
     let form = if guard.is_empty() {
         form
@@ -217,26 +277,13 @@ fn list_of<'a>(given: &Given<'_, 'a>, form: ArrayForm) -> Asked<'a, Product<'a>>
         ArrayForm::GuardedC
     };
     let guard = guard.as_bytes();
+    let list = LiteralArrayRule { form, name, guard };
     match given.value(&NUMERALS) {
-        Some(word) => match numerals_of(given, word) {
-            Ok(numerals) => Ok(Product::List(ArrayRule {
-                form,
-                numerals,
-                name,
-                guard,
-            })),
+        Some(word) => numeral_list(given, word, list),
+        None => match refuse_numerals(given) {
+            Ok(()) => Ok(Product::Literals(list)),
             Err(refusal) => Err(refusal),
         },
-        None => {
-            for row in [&RADIX, &POLICY, &MODE] {
-                refuse_option(
-                    given,
-                    row,
-                    "is for numerals, which --numerals FORMAT asks for",
-                )?;
-            }
-            Ok(Product::Literals(LiteralArrayRule { form, name, guard }))
-        }
     }
 }
 
@@ -248,7 +295,7 @@ fn run_list<'a, L: Ledger>(
     steps: &mut Steps<L>,
 ) -> Asked<'a, Status> {
     match list_of(given, form) {
-        Ok(product) => Ok(run_product(rt, &product, given.from(1), steps)),
+        Ok(product) => run_product(rt, &product, given, 1, steps),
         Err(refusal) => Err(refusal),
     }
 }
@@ -268,5 +315,5 @@ pub fn run<'a, L: Ledger>(
         form,
         guard: guard_of(given, form == Form::C)?.as_bytes(),
     };
-    Ok(run_product(rt, &Product::Constants(rule), given.from(files), steps))
+    run_product(rt, &Product::Constants(rule), given, files, steps)
 }

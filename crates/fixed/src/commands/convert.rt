@@ -1,24 +1,33 @@
-//! `fixed convert`: each line is a numeral.
+//! `fixed convert`: converts numerals, one a line.
 
-ghost use Rattle.std.specs.Prelude.{IfErr, IfOk};
-ghost use Rattle.fixed.specs.Lines.{IsLayoutAsked};
-ghost use Rattle.fixed_command.specs.Layout.{LineLayout};
+ghost use Rattle.std.specs.Prelude.{◌≡◌, IfErr, IfOk, None};
+ghost use Rattle.command_line.specs.Words.{value_of};
+ghost use Rattle.fixed.specs.Convert.{HasNoWordOption, IsWordsAsked};
+ghost use Rattle.fixed.specs.declared.inputs.Job.{Job};
 
 use crate::commands::amounts;
+use crate::commands::convert_errors::{error_settings, measure_of, refuse_beside_errors};
 use crate::commands::convert_words::word_rule;
-use crate::inputs::{Job, run_inputs_to};
+use crate::inputs::{Job, run_inputs};
+use crate::line_layout::{has_layout, layout_of};
 use crate::options::{
-    COMMENTS, FROM, KEEP_WORDS, MODE, OUTPUT, PLACES, PLACES_MODE, POLICY, PRINT, RADIX, REFUSED,
-    REPORT, SEPARATORS, SKIP_BLANK, SOURCE, TARGET, TARGET_MODE, TRIM, WORDS,
+    COMMENTS, FROM, KEEP_WORDS, LIMIT, MODE, OUTPUT, PLACES, PLACES_MODE, POLICY, PRINT_OR_ERROR,
+    RADIX, REFUSED, REPORT, SEPARATORS, SKIP_BLANK, SOURCE, TARGET, TARGET_MODE, TRIM, WORDS,
 };
-use crate::output::open_output;
 use crate::settings::{conversion, note_target_mode};
 use command_line::given::{Asked, Given, Refusal};
-use command_line::page::Page;
-use fixed_command::{ConvertRule, LaidOutRule, Layout, Task};
+use command_line::page::{Page, Row};
+use fixed_command::{ConvertRule, ErrorLines, LaidOutRule, Measure, Offers, Task};
 use fixed_steps::Steps;
 use line_engine::Status;
 use std::sync::ledger::Ledger;
+
+/// The options for other spellings of numerals.
+pub const OFFERS: Offers = Offers {
+    decimal: false,
+    trim: true,
+    radix: true,
+};
 
 pub fn page() -> Page {
     Page {
@@ -34,12 +43,13 @@ pub fn page() -> Page {
             POLICY,
             MODE,
             TARGET_MODE,
-            PRINT,
+            PRINT_OR_ERROR,
             PLACES,
             PLACES_MODE,
             TRIM,
             SKIP_BLANK,
             COMMENTS,
+            LIMIT,
             WORDS,
             SEPARATORS,
             REFUSED,
@@ -56,6 +66,9 @@ pub fn page() -> Page {
               A word is decimal, or after 0x, 0o or 0b, or bare in the radix, of at most the\n\
               bits of SOURCE in two's complement; with a sign it is the number itself.\n\
               \n\
+              --print error has the error of each number read into SOURCE: its value less that\n\
+              of the numeral, and --print ulps the same in ulps, as 'fixed show' has them.\n\
+              \n\
               With --words a refused word becomes one word, or text stays (--keep);\n\
               CHARS may be ',[]{}():=;' for C, TOML and dumps.\n\
               \n\
@@ -63,33 +76,10 @@ pub fn page() -> Page {
     }
 }
 
-/// What the options say that a line may have beside its numeral.
-pub fn layout_of<'a>(given: &Given<'_, 'a>) -> Asked<'a, Layout>
-    ensures value { IfOk result (λ layout. IsLayoutAsked given.now layout) }
-    ensures refused { IfErr result (λ _. (layout : LineLayout) → ¬ IsLayoutAsked given.now layout) }
-{
-    let prefix = match given.value(&COMMENTS) {
-        Some("") => return Err(Refusal::Word("", "is no beginning of a comment: it is empty")),
-        Some(prefix) if prefix.starts_with(' ') || prefix.starts_with('\t') => {
-            return Err(Refusal::Word(prefix, "begins with a blank, which no comment does"));
-        }
-        Some(prefix) => prefix,
-        None => "",
-    };
-    match Layout::new(given.has(&TRIM), given.has(&SKIP_BLANK), prefix.as_bytes()) {
-        Some(layout) => Ok(layout),
-        None => Err(Refusal::Word(
-            prefix,
-            "is longer than a comment's beginning may be: 64 bytes",
-        )),
-    }
-}
-
-/// What is done with each input: lines of numerals alone are converted at less cost.
+/// Returns the task for each input. Lines of only numerals are converted at less cost.
 fn task_of<'a>(given: &Given<'_, 'a>, rule: ConvertRule) -> Asked<'a, Task<'a>> {
     let has_report = given.has(&REPORT);
-    let has_layout = given.has(&TRIM) || given.has(&SKIP_BLANK) || given.value(&COMMENTS).is_some();
-    if !has_report && !has_layout {
+    if !has_report && !has_layout(given) {
         return Ok(Task::Convert(rule));
     }
     match layout_of(given) {
@@ -105,7 +95,7 @@ fn task_of<'a>(given: &Given<'_, 'a>, rule: ConvertRule) -> Asked<'a, Task<'a>> 
     }
 }
 
-/// What is done with each input, line by line or word by word.
+/// Returns the job for each input, by lines or by words.
 fn job_of<'a>(given: &Given<'_, 'a>, rule: ConvertRule) -> Asked<'a, Job<'a>> {
     if given.has(&WORDS) {
         return words_of(given, rule);
@@ -117,24 +107,35 @@ fn job_of<'a>(given: &Given<'_, 'a>, rule: ConvertRule) -> Asked<'a, Job<'a>> {
     }
 }
 
-/// Refuses options that mean something for words only.
-pub fn refuse_words<'a>(given: &Given<'_, 'a>) -> Asked<'a, ()> {
-    let option = if given.value(&SEPARATORS).is_some() {
-        "--separators"
-    } else if given.value(&REFUSED).is_some() {
-        "--refused"
-    } else if given.value(&KEEP_WORDS).is_some() {
-        "--keep"
-    } else {
-        return Ok(());
-    };
-    Err(Refusal::Word(option, "goes with '--words' alone"))
+/// Refuses an option that has a meaning only for words. `word` is the option as it is given.
+fn refuse_of_words<'a>(given: &Given<'_, 'a>, row: &Row, word: &'static str) -> Asked<'a, ()>
+    ensures value { IfOk result (λ _. value_of given.now row.now.name.now ≡ None) }
+    ensures refused { IfErr result (λ _. ¬ (value_of given.now row.now.name.now ≡ None)) }
+{
+    match given.value(row) {
+        None => Ok(()),
+        Some(_) => Err(Refusal::Word(word, "goes with '--words' alone")),
+    }
 }
 
-/// Words are converted where they stand, and separators stay: there are no comments among them.
-fn words_of<'a>(given: &Given<'_, 'a>, rule: ConvertRule) -> Asked<'a, Job<'a>> {
-    if given.value(&COMMENTS).is_some() {
-        return Err(Refusal::Word("--comments", "does not go with '--words'"));
+/// Refuses options that have a meaning only for words.
+pub fn refuse_words<'a>(given: &Given<'_, 'a>) -> Asked<'a, ()>
+    ensures value { IfOk result (λ _. HasNoWordOption given.now) }
+    ensures refused { IfErr result (λ _. ¬ HasNoWordOption given.now) }
+{
+    refuse_of_words(given, &SEPARATORS, "--separators")?;
+    refuse_of_words(given, &REFUSED, "--refused")?;
+    refuse_of_words(given, &KEEP_WORDS, "--keep")
+}
+
+/// Returns the job that converts words in place. Separators stay, so comments are refused.
+fn words_of<'a>(given: &Given<'_, 'a>, rule: ConvertRule) -> Asked<'a, Job<'a>>
+    ensures value { IfOk result (λ job. IsWordsAsked given.now rule job) }
+    ensures refused { IfErr result (λ _. (job : Job) → ¬ IsWordsAsked given.now rule job) }
+{
+    match given.value(&COMMENTS) {
+        None => (),
+        Some(_) => return Err(Refusal::Word("--comments", "does not go with '--words'")),
     }
     match word_rule(given, rule) {
         Ok(rule) => Ok(Job::Words {
@@ -145,12 +146,38 @@ fn words_of<'a>(given: &Given<'_, 'a>, rule: ConvertRule) -> Asked<'a, Job<'a>> 
     }
 }
 
+/// Writes the error of each numeral of each file.
+fn run_errors<'a, L: Ledger>(
+    rt: &HostRuntime,
+    given: &Given<'_, 'a>,
+    measure: Measure,
+    steps: &mut Steps<L>,
+) -> Asked<'a, Status> {
+    if amounts::decimal_at(given, 0).is_some() {
+        return Err(Refusal::Option(
+            "print",
+            "has no errors of a decimal format: 'fixed show' has the error of an amount",
+        ));
+    }
+    refuse_beside_errors(given)?;
+    let lines = match (error_settings(given, measure), layout_of(given)) {
+        (Ok(settings), Ok(layout)) => ErrorLines { settings, layout },
+        (Err(refusal), _) => return Err(refusal),
+        (_, Err(refusal)) => return Err(refusal),
+    };
+    let format = given.needed(0, "SOURCE")?;
+    run_inputs(rt, &Job::Task(Task::Errors(lines)), format, given, 1, steps)
+}
+
 /// Converts the numerals of each file.
 pub fn run<'a, L: Ledger>(
     rt: &HostRuntime,
     given: &Given<'_, 'a>,
     steps: &mut Steps<L>,
 ) -> Asked<'a, Status> {
+    if let Some(measure) = measure_of(given) {
+        return run_errors(rt, given, measure, steps);
+    }
     if let Some(format) = amounts::decimal_at(given, 0) {
         return amounts::convert(rt, given, format, steps);
     }
@@ -161,9 +188,6 @@ pub fn run<'a, L: Ledger>(
         Err(refusal) => return Err(refusal),
     };
     note_target_mode(rt, given, 0, place);
-    let files = given.from(place);
-    match open_output(rt, given, files)? {
-        Ok(mut output) => Ok(run_inputs_to(rt, &job, files, &mut output, steps)),
-        Err(status) => Ok(status),
-    }
+    let format = given.needed(0, "SOURCE")?;
+    run_inputs(rt, &job, format, given, place, steps)
 }

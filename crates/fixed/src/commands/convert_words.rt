@@ -1,4 +1,4 @@
-//! What the options of `fixed convert --words` ask for.
+//! The requests in the options of `fixed convert --words`.
 
 ghost use Rattle.std.specs.Prelude.{◌≡◌, List, ℕ, IfErr, IfOk, MatchOption, codes};
 ghost use Rattle.std.specs.List.{list_all};
@@ -15,21 +15,21 @@ use fixed_command::ConvertRule;
 use fixed_words::{Leaving, MAX_TOKEN, WordRule};
 use text_buffer::TextBuffer;
 
-/// Whether a byte may separate words: it is ASCII, and in no numeral.
+/// Whether a byte may separate words: it is ASCII and cannot occur in a numeral.
 fn may_separate(byte: u8) -> bool
     ensures { result ≡ may_separate byte }
 {
     byte < 128 && !byte.is_ascii_alphanumeric() && !matches!(byte, b'+' | b'-' | b'.' | b'@')
 }
 
-/// Whether each of some bytes may separate words.
+/// Whether each byte may separate words.
 fn may_all_separate(bytes: &[u8]) -> bool
     ensures { result ≡ list_all may_separate bytes.now }
 {
     bytes.iter().all(|b| may_separate(*b))
 }
 
-/// The bytes that separate words, beside blanks: a comma where the option is left out.
+/// Returns the bytes that separate words in addition to blanks: a comma without the option.
 fn separators_of<'a>(given: &Given<'_, 'a>) -> Asked<'a, &'a [u8]>
     ensures value { IfOk result (λ a. AreSeparatorsAsked (value_of given.now (codes "separators")) a.now) }
     ensures refused { IfErr result (λ _. (a : List ℕ)
@@ -54,7 +54,7 @@ fn has_separator(separators: &[u8], word: &[u8]) -> bool
         .any(|b| b.is_ascii_whitespace() || separators.contains(b))
 }
 
-/// What is written for a refused word: `error` where the option is left out.
+/// Returns the text for a refused word: `error` without the option.
 fn token_of<'a>(given: &Given<'_, 'a>, separators: &[u8]) -> Asked<'a, TextBuffer<MAX_TOKEN>>
     ensures value { IfOk result (λ a. IsTokenAsked separators.now (value_of given.now (codes "refused")) a) }
     ensures refused { IfErr result (λ _. (a : List ℕ)
@@ -78,7 +78,7 @@ fn token_of<'a>(given: &Given<'_, 'a>, separators: &[u8]) -> Asked<'a, TextBuffe
     Ok(token)
 }
 
-/// Which refused words stay, as a value says.
+/// Returns which refused words stay, from a value.
 fn leaving_named(word: &str) -> Option<Leaving>
     ensures { MatchOption result ((a : Leaving) → ¬ IsLeavingWord word.now a) (λ a. IsLeavingWord word.now a) }
 {
@@ -89,7 +89,7 @@ fn leaving_named(word: &str) -> Option<Leaving>
     }
 }
 
-/// Which refused words stay: none where the option is left out.
+/// Returns which refused words stay: none without the option.
 fn leaving_of<'a>(given: &Given<'_, 'a>) -> Asked<'a, Leaving>
     ensures value { IfOk result (λ a. IsLeavingAsked (value_of given.now (codes "keep")) a) }
     ensures refused { IfErr result (λ _. (a : Leaving) → ¬ IsLeavingAsked (value_of given.now (codes "keep")) a) }
@@ -100,7 +100,7 @@ fn leaving_of<'a>(given: &Given<'_, 'a>) -> Asked<'a, Leaving>
     }
 }
 
-/// How words are converted, as the options say.
+/// Returns how words are converted, from the options.
 pub fn word_rule<'a>(given: &Given<'_, 'a>, rule: ConvertRule) -> Asked<'a, WordRule<'a>>
     ensures rule { IfOk result (λ words. words.rule ≡ rule) }
     ensures value { IfOk result (λ words. IsWordRuleAsked given.now words) }

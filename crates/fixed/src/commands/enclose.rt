@@ -1,6 +1,7 @@
-//! `fixed enclose`: each line is one of `enclose_tool`.
+//! `fixed enclose`: answers the lines of `enclose_tool`.
 
 use crate::inputs::{Job, run_inputs};
+use crate::options::{LIMIT, OUTPUT};
 use command_line::given::{Asked, Given};
 use command_line::page::{FILES, Page};
 use fixed_command::Task;
@@ -13,10 +14,10 @@ pub fn page() -> Page {
         name: "enclose",
         hidden_name: "",
         about: "Answer lines `RADIX FORMAT NUMERAL` with the two nearest values",
-        usage: "fixed enclose [FILE]...",
+        usage: "fixed enclose [OPTIONS] [FILE]...",
         operands: &[FILES],
         has_numerals: false,
-        options: &[],
+        options: &[LIMIT, OUTPUT],
         end: "Example: echo '10 I4F4 3.14' | fixed enclose",
     }
 }
@@ -27,5 +28,5 @@ pub fn run<'a, L: Ledger>(
     given: &Given<'_, 'a>,
     steps: &mut Steps<L>,
 ) -> Asked<'a, Status> {
-    Ok(run_inputs(rt, &Job::Task(Task::Enclose), given.from(0), steps))
+    run_inputs(rt, &Job::Task(Task::Enclose), "", given, 0, steps)
 }

@@ -1,25 +1,28 @@
-//! `fixed fit`: the finest format of a width that each numeral of an input fits, or the least within an error, and the
-//! greatest error in it.
+//! `fixed fit`: finds the finest format of a width that each numeral of an input fits, or the least within an error,
+//! and the greatest error in it.
 
-ghost use Rattle.std.specs.Prelude.{◌≡◌, ◌++◌, ◌⊎◌, ◌+◌, ◌*◌, ℕ, IfErr, IfOk, List, MatchOption, None, Option, Some};
-ghost use Rattle.std.specs.Prelude.{codes, is_some, length, option_map, slice_index};
+ghost use Rattle.std.specs.Prelude.{◌≡◌, ◌≤◌, ◌++◌, ◌∷◌, [], ◌⊎◌, ◌+◌, ◌*◌, ℕ, IfErr, IfOk, List, MatchOption, None};
+ghost use Rattle.std.specs.Prelude.{OnOk, Option, Some, codes, is_some, length, option_map, slice_index};
 ghost use Rattle.std.specs.Str.Parse.{AllDigits, digits_value};
 ghost use Rattle.command_line.specs.Words.{has_flag, value_of};
 ghost use Rattle.command_line.specs.declared.given.Refusal.{Refusal};
-ghost use Rattle.fixed.specs.Fit.{IsErrorAsked, IsErrorNumeral, IsPower, IsPowerWord, half_power, widths_asked};
+ghost use Rattle.fixed.specs.Fit.{IsErrorAsked, IsErrorNumeral, IsFractionsAsked, IsPower, IsPowerWord, IsWholeWord};
+ghost use Rattle.fixed.specs.Fit.{HasNoHyphen, half_power, has_hyphen, widths_asked};
 ghost use Rattle.fixed.specs.Inner.Fractions.{IsFraction};
 ghost use Rattle.fixed.specs.Lines.{IsKindAsked, IsKindWord};
 ghost use Rattle.fixed_bits.specs.Formats.{FormatParts};
 
 use crate::inputs::{Job, run_inputs};
-use crate::options::RADIX;
-use crate::settings::radix_of;
-use command_line::device::{Failure, Writer};
+use crate::options::{LIMIT, OUTPUT, RADIX};
+use crate::output::open_answers;
+use crate::settings::{radix_of, refuse_value};
+use command_line::device::{Failure, Output, Writer};
 use command_line::given::{Asked, Given, Refusal};
 use command_line::page::{FILES, Page, Row};
 use command_line::report::{Report, report_end};
 use fixed_bits::Format;
-use fixed_fit::{FitEnd, Question, Unfit, Widths, run_fit};
+use fixed_command::Limit;
+use fixed_fit::{FitEnd, Fractions, Question, Unfit, Widths, run_fit};
 use fixed_io::StdSink;
 use fixed_numeral::{Radix, scan};
 use fixed_respell::number_word;
@@ -28,16 +31,16 @@ use line_engine::{MemorySource, Sink, Source, Status};
 use std::alloc::{AllocError, Global};
 use std::sync::ledger::Ledger;
 
-/// The greatest K of an error 2^-K.
+/// The greatest K in an error 2^-K.
 const MOST_POWER: u32 = 1000;
 
-/// What is asked of a list.
+/// The question about a list.
 #[derive(Drop)]
 pub struct FitTask {
     question: Question,
-    /// The greatest error that a numeral may have, where it is asked for: a numeral.
+    /// The greatest error that a numeral may have, as a numeral, if requested.
     error: Option<Vec<u8>>,
-    /// Of which widths a format within it is asked for.
+    /// The widths that a format within the error may have.
     widths: Widths,
 }
 
@@ -89,6 +92,22 @@ const ANY: Row = Row {
     help: "With --error, of any width, not only 8, 16, 32 and 64",
 };
 
+const WHOLE: Row = Row {
+    name: "whole",
+    letter: None,
+    value: "N",
+    choices: &[],
+    help: "At least N whole bits, a sign bit among them: 1 as in Q15",
+};
+
+const BEYOND: Row = Row {
+    name: "beyond",
+    letter: None,
+    value: "",
+    choices: &[],
+    help: "Also fractions longer than the width, of up to 64 bits",
+};
+
 pub fn page() -> Page {
     Page {
         name: "fit",
@@ -98,7 +117,9 @@ pub fn page() -> Page {
                 fixed fit (--width W | --error E) [OPTIONS] --range LO HI",
         operands: &[FILES],
         has_numerals: true,
-        options: &[WIDTH, ERROR, ANY, SIGNED, WHY, RANGE, RADIX],
+        options: &[
+            WIDTH, ERROR, ANY, WHOLE, BEYOND, SIGNED, WHY, RANGE, RADIX, LIMIT, OUTPUT,
+        ],
         end: "A numeral fits a format where it is in range after rounding to nearest, ties to\n\
               even. The finest format has the greatest fraction length. It is signed exactly\n\
               where a numeral is below zero, or where --signed asks for it. After its name\n\
@@ -112,11 +133,14 @@ pub fn page() -> Page {
               --why a last line has the next lesser width that was tried, and the first line\n\
               that rules out the last of its formats.\n\
               \n\
+              A format has no less than 0 whole bits, or N with --whole. With --beyond it may\n\
+              have less than 0, as I-9F25 has, whose 16 bits reach from -2^-10 to 2^-10.\n\
+              \n\
               Example: printf '0.5\\n-3.2\\n' | fixed fit --width 16 --why",
     }
 }
 
-/// The format of the width that a word is and of a sign rule.
+/// Returns the format with the width `word` and a sign rule.
 fn kind_named(word: &str, is_signed: bool) -> Option<Format>
     ensures { MatchOption result ((kind : FormatParts) → ¬ IsKindWord is_signed word.now kind)
         (λ kind. IsKindWord is_signed word.now kind) }
@@ -127,7 +151,7 @@ fn kind_named(word: &str, is_signed: bool) -> Option<Format>
     }
 }
 
-/// The format of the width and the sign rule that the options name; of 64 bits where an error is asked for, and no
+/// Returns the format with the width and the sign rule in the options; of 64 bits if an error is requested and no
 /// width.
 fn kind_of<'a>(given: &Given<'_, 'a>) -> Asked<'a, Format>
     ensures value { IfOk result (λ kind. IsKindAsked (has_flag given.now (codes "signed"))
@@ -146,7 +170,7 @@ fn kind_of<'a>(given: &Given<'_, 'a>) -> Asked<'a, Format>
     }
 }
 
-/// Of which widths a format within an error is asked for.
+/// Returns the widths that a format within an error may have.
 fn widths_of<'a>(given: &Given<'_, 'a>) -> Asked<'a, Widths>
     ensures value { IfOk result (λ a. widths_asked (has_flag given.now (codes "any"))
         (is_some (value_of given.now (codes "error"))) (is_some (value_of given.now (codes "width"))) ≡ Some a) }
@@ -165,7 +189,48 @@ fn widths_of<'a>(given: &Given<'_, 'a>) -> Asked<'a, Widths>
     }
 }
 
-/// The digits after the point of the half of a decimal fraction.
+/// Returns the number of whole bits, at most a width, that `word` writes.
+fn whole_named(word: &str, width: u32) -> Option<u32>
+    requires { width ≤ 64 }
+    ensures { MatchOption result ((least : ℕ) → ¬ IsWholeWord width word.now least)
+        (λ least. IsWholeWord width word.now least) }
+{
+    match number_word(word.as_bytes(), u64::from(width)) {
+        Some(least) => Some(least as u32),
+        None => None,
+    }
+}
+
+/// Returns the fraction lengths that a format of the width may have.
+fn fractions_of<'a>(given: &Given<'_, 'a>, width: u32) -> Asked<'a, Fractions>
+    requires { width ≤ 64 }
+    ensures value { IfOk result (λ a. IsFractionsAsked width (value_of given.now (codes "whole"))
+        (has_flag given.now (codes "beyond")) a) }
+    ensures refused { IfErr result (λ _. (a : Fractions) → ¬ IsFractionsAsked width
+        (value_of given.now (codes "whole")) (has_flag given.now (codes "beyond")) a) }
+{
+    let is_beyond = given.has(&BEYOND);
+    let word = match given.value(&WHOLE) {
+        Some(word) => word,
+        None if is_beyond => return Ok(Fractions::Beyond),
+        None => return Ok(Fractions::Whole(0)),
+    };
+    if is_beyond {
+        return Err(Refusal::Word(
+            "--beyond",
+            "allows fewer than 0 whole bits, and --whole does not",
+        ));
+    }
+    match whole_named(word, width) {
+        Some(least) => Ok(Fractions::Whole(least)),
+        None => Err(Refusal::Word(
+            word,
+            "is not a number of whole bits: it is a number from 0 to the width",
+        )),
+    }
+}
+
+/// Halves a decimal fraction, given and returned as the digits after its point.
 fn halved(alloc: Global, digits: &[u8]) -> Result<Vec<u8>, AllocError>
     requires { AllDigits 10 digits.now }
     ensures { IfOk result (λ half. IsFraction (length digits.now + 1) (5 * digits_value 10 digits.now) half.items) }
@@ -181,7 +246,7 @@ fn halved(alloc: Global, digits: &[u8]) -> Result<Vec<u8>, AllocError>
     Ok(half)
 }
 
-/// 2^-`power` in decimal.
+/// Returns 2^-`power` in decimal.
 fn power_of_half(alloc: Global, power: u32) -> Result<Vec<u8>, AllocError>
     ensures { IfOk result (λ text. text.items ≡ half_power power) }
 {
@@ -200,7 +265,7 @@ fn power_of_half(alloc: Global, power: u32) -> Result<Vec<u8>, AllocError>
     Ok(text)
 }
 
-/// The first byte of a text, or 0 where it is empty.
+/// Returns the first byte of a text, or 0 if it is empty.
 fn first_byte(text: &str) -> u8
     ensures { result ≡ slice_index text.now 0 }
 {
@@ -210,7 +275,7 @@ fn first_byte(text: &str) -> u8
     }
 }
 
-/// The K, up to 1,000, whose decimal digits a word is.
+/// Returns the K, up to 1,000, that `word` writes in decimal digits.
 fn power_named(word: &str) -> Option<u32>
     ensures { MatchOption result (¬ IsPower word.now) (λ k. IsPower word.now × (k ≡ digits_value 10 word.now)) }
 {
@@ -223,7 +288,7 @@ fn power_named(word: &str) -> Option<u32>
     }
 }
 
-/// A word after a prefix.
+/// Returns `word` after `prefix`.
 fn prefixed(alloc: Global, prefix: &str, word: &str) -> Result<Vec<u8>, AllocError>
     ensures { IfOk result (λ text. text.items ≡ prefix.now ++ word.now) }
 {
@@ -233,7 +298,7 @@ fn prefixed(alloc: Global, prefix: &str, word: &str) -> Result<Vec<u8>, AllocErr
     Ok(text)
 }
 
-/// 2^-K as a numeral of the radix; `None` where a word is no K up to 1,000.
+/// Returns 2^-K as a numeral of the radix; `None` if `word` is not a K up to 1,000.
 fn power_numeral(alloc: Global, word: &str, radix: Radix) -> Result<Option<Vec<u8>>, AllocError>
     ensures { IfOk result (λ found. MatchOption found ((text : List ℕ) → ¬ IsPowerWord radix word.now text)
         (λ text. IsPowerWord radix word.now text.items)) }
@@ -250,7 +315,7 @@ fn power_numeral(alloc: Global, word: &str, radix: Radix) -> Result<Option<Vec<u
     }
 }
 
-/// The numeral of an error, which is not below zero; `None` where a word is none.
+/// Returns the numeral of an error, which is not below zero; `None` if `word` is not one.
 fn error_numeral<L: Ledger>(
     alloc: Global,
     word: &str,
@@ -272,7 +337,7 @@ fn error_numeral<L: Ledger>(
     }
 }
 
-/// The error that the option names, as a numeral; `None` where it is not there.
+/// Returns the error that the option names, as a numeral; `None` without the option.
 fn error_of<'a, L: Ledger>(
     alloc: Global,
     given: &Given<'_, 'a>,
@@ -298,7 +363,7 @@ fn error_of<'a, L: Ledger>(
     }
 }
 
-/// Says on standard error which line is not a numeral, or rules out the last format.
+/// Reports on standard error which line is not a numeral, or rules out the last format.
 fn report_unfit(rt: &HostRuntime, file: Option<&str>, unfit: &Unfit) {
     let mut report = Report::of(file);
     match unfit {
@@ -325,6 +390,7 @@ fn report_unfit(rt: &HostRuntime, file: Option<&str>, unfit: &Unfit) {
 fn answer_list<S: Source, K: Sink, L: Ledger>(
     rt: &HostRuntime,
     task: &FitTask,
+    limit: &Option<Limit>,
     source: &mut S,
     sink: &mut K,
     steps: &mut Steps<L>,
@@ -332,9 +398,18 @@ fn answer_list<S: Source, K: Sink, L: Ledger>(
     let question = &task.question;
     let widths = Some(task.widths);
     match &task.error {
-        None => run_fit(rt.alloc(), question, None, &[], source, sink, steps),
+        None => run_fit(rt.alloc(), limit, question, None, &[], source, sink, steps),
         Some(error) => match scan(error, question.radix, steps) {
-            Ok(_) => run_fit(rt.alloc(), question, widths, error, source, sink, steps),
+            Ok(_) => run_fit(
+                rt.alloc(),
+                limit,
+                question,
+                widths,
+                error,
+                source,
+                sink,
+                steps,
+            ),
             Err(_) => FitEnd {
                 status: Status::Usage,
                 unfit: None,
@@ -343,21 +418,23 @@ fn answer_list<S: Source, K: Sink, L: Ledger>(
     }
 }
 
-/// Answers the list of a source, and says on standard error why it did not end well.
+/// Answers the list of a source, and reports on standard error why it did not end well.
 #[inline(never)]
 pub fn run_on<S: Source, L: Ledger>(
     rt: &HostRuntime,
     task: &FitTask,
+    limit: &Option<Limit>,
     file: Option<&str>,
     source: &mut S,
+    output: &mut Output,
     steps: &mut Steps<L>,
 ) -> Status {
     let failure = Failure::new(None);
     let mut sink = StdSink::new(Writer {
-        writer: rt.stdout(),
+        writer: output,
         failure: &failure,
     });
-    let end = answer_list(rt, task, source, &mut sink, steps);
+    let end = answer_list(rt, task, limit, source, &mut sink, steps);
     if end.status == Status::Faults {
         if let Some(unfit) = &end.unfit {
             report_unfit(rt, file, unfit);
@@ -367,45 +444,78 @@ pub fn run_on<S: Source, L: Ledger>(
     end.status
 }
 
-/// The list of the two ends of a range.
-fn ends_of(alloc: Global, low: &str, high: &str) -> Result<Vec<u8>, AllocError> {
+/// Appends a text and a newline.
+fn push_line(bytes: &mut Vec<u8>, text: &str) -> Result<(), AllocError>
+    ensures { OnOk result (bytes.new.items ≡ bytes.old.items ++ (text.now ++ 10 ∷ [])) }
+{
+    bytes.extend_from_slice(text.as_bytes())?;
+    bytes.push(b'\n')?;
+    Ok(())
+}
+
+/// Returns the list of the two ends of a range.
+fn ends_of(alloc: Global, low: &str, high: &str) -> Result<Vec<u8>, AllocError>
+    ensures { IfOk result (λ bytes. bytes.items ≡ (low.now ++ 10 ∷ []) ++ (high.now ++ 10 ∷ [])) }
+{
     let mut bytes = Vec::new(alloc);
-    for end in [low, high] {
-        bytes.extend_from_slice(end.as_bytes())?;
-        bytes.push(b'\n')?;
-    }
+    push_line(&mut bytes, low)?;
+    push_line(&mut bytes, high)?;
     Ok(bytes)
 }
 
-/// Answers for every value between two numerals: as the list of the two.
+/// Answers for every value between two numerals, passed as a list of the two.
 fn run_range<'a, L: Ledger>(
     rt: &HostRuntime,
     task: &FitTask,
-    words: &[&'a str],
+    given: &Given<'_, 'a>,
     steps: &mut Steps<L>,
 ) -> Asked<'a, Status> {
-    match words {
+    refuse_value(given, &LIMIT, "is for an input: '--range' reads none")?;
+    match given.from(0) {
         [low, high] => {
             let bytes = ends_of(rt.alloc(), low, high)?;
             let mut source = MemorySource::new(bytes, 4096, Vec::new(rt.alloc()));
-            Ok(run_on(rt, task, None, &mut source, steps))
+            match open_answers(rt, given) {
+                Ok(mut output) => Ok(run_on(
+                    rt,
+                    task,
+                    &None,
+                    None,
+                    &mut source,
+                    &mut output,
+                    steps,
+                )),
+                Err(status) => Ok(status),
+            }
         }
         [_, _, word, ..] => Err(Refusal::Word(word, "is one word too many: a range is LO HI")),
         _ => Err(Refusal::Missing("range: it is LO HI")),
     }
 }
 
-/// Refuses a word that begins with a hyphen, which is no file: such a file is written `./-x`, or after `--`.
-fn refuse_hyphens<'a>(given: &Given<'_, 'a>) -> Asked<'a, ()> {
-    for place in 0..given.words.len() {
-        match given.keyword(place) {
-            Some(word) if word.len() > 1 && word.starts_with('-') => {
+/// Whether a word begins with a hyphen before another byte.
+fn has_hyphen(word: &[u8]) -> bool
+    ensures { result ≡ has_hyphen word.now }
+{
+    match word {
+        [first, _, ..] => *first == b'-',
+        _ => false,
+    }
+}
+
+/// Refuses an operand that begins with a hyphen, which is not a file: such a file is written `./-x`, or after `--`.
+fn refuse_hyphens<'a>(given: &Given<'_, 'a>) -> Asked<'a, ()>
+    ensures value { IfOk result (λ _. HasNoHyphen given.now) }
+    ensures refused { IfErr result (λ _. ¬ HasNoHyphen given.now) }
+{
+    'words: for place in 0..given.words.len() {
+        if let Some(word) = given.keyword(place) {
+            if has_hyphen(word.as_bytes()) {
                 return Err(Refusal::Word(
                     word,
                     "is not an option, nor a file: a numeral is an end of '--range'",
                 ));
             }
-            _ => (),
         }
     }
     Ok(())
@@ -426,6 +536,7 @@ pub fn run<'a, L: Ledger>(
         question: Question {
             radix,
             kind,
+            fractions: fractions_of(given, kind.width())?,
             is_reason_asked: given.has(&WHY),
             is_range: given.has(&RANGE),
         },
@@ -433,8 +544,8 @@ pub fn run<'a, L: Ledger>(
         widths: widths_of(given)?,
     };
     if given.has(&RANGE) {
-        return run_range(rt, &task, given.from(0), steps);
+        return run_range(rt, &task, given, steps);
     }
     refuse_hyphens(given)?;
-    Ok(run_inputs(rt, &Job::Fit(task), given.from(0), steps))
+    run_inputs(rt, &Job::Fit(task), "", given, 0, steps)
 }

@@ -1,17 +1,18 @@
-//! Raw floats: read into words by `fixed pack --from`, and written for words by `fixed unpack --to`.
+//! Raw floats: `fixed pack --from` reads them into words, and `fixed unpack --to` writes them for words.
 
-ghost use Rattle.std.specs.Prelude.{◌≤◌, length};
+ghost use Rattle.std.specs.Prelude.{◌≡◌, ◌≤◌, length};
+ghost use Rattle.fixed.specs.Ends.{end_text, status_of};
 
 use crate::commands::pack::Counted;
-use command_line::device::{Failure, Writer};
+use crate::inputs::report_greatest;
+use command_line::device::{Failure, Output, Writer};
 use command_line::report::{Report, hex_digit, is_broken_pipe, push_words};
-use fixed_command::Tally;
+use fixed_command::{Limit, Tally};
 use fixed_io::{StdSink, StdSource};
 use fixed_pack::{
     FloatWords, Recode, RecodeEnd, RefusedWord, Rounds, WordFloats, WordRefusal, WordReport,
     WordWatch, run_recode,
 };
-use fixed_report::MAX_GREATEST;
 use fixed_steps::Steps;
 use line_engine::Status;
 use run_engine::End;
@@ -19,8 +20,10 @@ use std::cell::Cell;
 use std::io::{Error, Read};
 use std::sync::ledger::Ledger;
 
-/// The status of a run that ended so.
-pub fn status_of<T>(end: &End<T>) -> Status {
+/// Returns the status of a run with this end.
+pub fn status_of<T>(end: &End<T>) -> Status
+    ensures { result ≡ status_of end.now }
+{
     match end {
         End::Done => Status::Done,
         End::Faults | End::Stopped(_) => Status::Faults,
@@ -31,7 +34,7 @@ pub fn status_of<T>(end: &End<T>) -> Status {
     }
 }
 
-/// Appends the bytes of a word that is refused, before the cause.
+/// Appends the bytes of a refused word, before the cause.
 pub fn push_bytes(report: &mut Report, word: &[u8]) {
     report.text(", bytes");
     for byte in word {
@@ -40,7 +43,7 @@ pub fn push_bytes(report: &mut Report, word: &[u8]) {
     report.text(": ");
 }
 
-/// Appends which word of the input is refused, its bytes, and why.
+/// Appends the number of a refused word, its bytes and the cause.
 fn push_refused(report: &mut Report, name: &str, refused: &RefusedWord<WordRefusal>) {
     report.text(name);
     report.text(" ");
@@ -49,8 +52,10 @@ fn push_refused(report: &mut Report, name: &str, refused: &RefusedWord<WordRefus
     report.text(refused.cause.message());
 }
 
-/// What is said of an end that is no refusal.
-pub fn end_text<T>(end: &End<T>) -> &'static str {
+/// Returns the message of an end without a refusal.
+pub fn end_text<T>(end: &End<T>) -> &'static str
+    ensures { result.now ≡ end_text end.now }
+{
     match end {
         End::ReadFault => "a read failed",
         End::WriteFault => "a write failed",
@@ -59,7 +64,7 @@ pub fn end_text<T>(end: &End<T>) -> &'static str {
     }
 }
 
-/// Says a report on standard error, with a failed call's words and how many bytes were written.
+/// Sends a report to standard error, with the message of a failed call and how many bytes were written.
 pub fn send_written(rt: &HostRuntime, mut report: Report, error: &Option<Error>, written: u64) {
     if let Some(error) = error {
         report.text(": ");
@@ -70,11 +75,21 @@ pub fn send_written(rt: &HostRuntime, mut report: Report, error: &Option<Error>,
     report.send(rt);
 }
 
-/// Says on standard error why an input did not end well, and how many bytes were written.
+/// An input of words or of floats.
+#[derive(Clone, Copy)]
+pub struct WordInput<'i> {
+    /// What reports call one of them.
+    pub name: &'static str,
+    /// The file's name; `None` for standard input.
+    pub file: Option<&'i str>,
+    /// The most bytes of the input.
+    pub limit: &'i Option<Limit>,
+}
+
+/// Reports on standard error why an input did not end well, and how many bytes were written.
 fn report_end(
     rt: &HostRuntime,
-    name: &str,
-    file: Option<&str>,
+    input: &WordInput<'_>,
     end: &End<RefusedWord<WordRefusal>>,
     left_over: usize,
     written: u64,
@@ -84,23 +99,22 @@ fn report_end(
     if matches!(end, End::Done) || is_broken_pipe(&error) {
         return;
     }
-    let mut report = Report::of(file);
+    let mut report = Report::of(input.file);
     match end {
         End::Done => (),
         End::Faults => {
             report.text("the input ends within a ");
-            report.text(name);
+            report.text(input.name);
             report.text(", bytes left over: ");
             report.number(left_over as u64);
         }
-        End::Stopped(refused) => push_refused(&mut report, name, refused),
+        End::Stopped(refused) => push_refused(&mut report, input.name, refused),
         _ => report.text(end_text(end)),
     }
     send_written(rt, report, &error, written);
 }
 
-/// Recodes one input by a rule, and says on standard error why it did not end well. `name` is that of a word of the
-/// input.
+/// Recodes one input by a rule, and reports on standard error why it did not end well.
 pub fn recode_on<
     Q: Recode<Cause = WordRefusal> + Drop,
     W: WordWatch<WordRefusal, L> + Drop,
@@ -110,9 +124,9 @@ pub fn recode_on<
     rt: &HostRuntime,
     rule: Q,
     watch: W,
-    name: &str,
-    file: Option<&str>,
+    input: &WordInput<'_>,
     reader: R,
+    output: &mut Output,
     steps: &mut Steps<L>,
 ) -> (Status, W) {
     let failure = Failure::new(None);
@@ -120,7 +134,7 @@ pub fn recode_on<
     let mut source = StdSource::new(reader);
     let mut sink = StdSink::new(Counted {
         writer: Writer {
-            writer: rt.stdout(),
+            writer: output,
             failure: &failure,
         },
         taken: &taken,
@@ -129,12 +143,12 @@ pub fn recode_on<
         end,
         left_over,
         watch,
-    } = run_recode(rule, watch, &mut source, &mut sink, steps);
-    report_end(rt, name, file, &end, left_over, taken.get(), &failure);
+    } = run_recode(input.limit, rule, watch, &mut source, &mut sink, steps);
+    report_end(rt, input, &end, left_over, taken.get(), &failure);
     (status_of(&end), watch)
 }
 
-/// Appends the place of the first one, or nothing if there is none.
+/// Appends the number of the first such word, or nothing if there is none.
 fn push_first(report: &mut Report, name: &str, first: u64) {
     if first > 0 {
         report.text(" (the first in ");
@@ -145,7 +159,7 @@ fn push_first(report: &mut Report, name: &str, first: u64) {
     }
 }
 
-/// Says on standard error how words came through.
+/// Reports the outcomes of words on standard error.
 fn report_tally(rt: &HostRuntime, name: &str, file: Option<&str>, tally: &Tally) {
     let through = tally.exact.saturating_add(tally.rounded);
     let mut report = Report::of(file);
@@ -169,8 +183,8 @@ fn report_tally(rt: &HostRuntime, name: &str, file: Option<&str>, tally: &Tally)
     report.send(rt);
 }
 
-/// Says on standard error how words came through, and which has the greatest error. If a write failed, not all that
-/// were counted were taken, and nothing is said.
+/// Reports the outcomes of words and the greatest error on standard error. After a failed write it reports nothing,
+/// since not all counted words were written.
 pub fn report_recoded<R: Rounds, L: Ledger>(
     rt: &HostRuntime,
     name: &str,
@@ -185,44 +199,50 @@ pub fn report_recoded<R: Rounds, L: Ledger>(
         return;
     }
     report_tally(rt, name, file, &words.tally);
-    if words.errors.is_lost() {
-        let mut report = Report::of(file);
-        report.text("greatest error: there is no memory for it");
-        report.send(rt);
-    } else if let Some(text) = words.errors.text(name.as_bytes(), steps) {
-        let mut report = Report::of(file);
-        report.bytes(text.as_bytes(), MAX_GREATEST);
-        report.send(rt);
-    }
+    report_greatest(rt, file, &words.errors, name.as_bytes(), steps);
 }
 
-/// Reads the floats of one input into words, and says on standard error why it did not end well.
+/// Reads the floats of one input into words, and reports on standard error why it did not end well.
 #[inline(never)]
 pub fn pack_on<R: Read + Drop, L: Ledger>(
     rt: &HostRuntime,
     floats: &FloatWords,
+    limit: &Option<Limit>,
     has_report: bool,
     file: Option<&str>,
     reader: R,
+    output: &mut Output,
     steps: &mut Steps<L>,
 ) -> Status {
+    let input = WordInput {
+        name: "float",
+        file,
+        limit,
+    };
     if !has_report {
-        return recode_on(rt, *floats, (), "float", file, reader, steps).0;
+        return recode_on(rt, *floats, (), &input, reader, output, steps).0;
     }
     let report = WordReport::new(rt.alloc(), *floats);
-    let (status, report) = recode_on(rt, *floats, report, "float", file, reader, steps);
+    let (status, report) = recode_on(rt, *floats, report, &input, reader, output, steps);
     report_recoded(rt, "float", file, status, &report, steps);
     status
 }
 
-/// Writes the words of one input as floats, and says on standard error why it did not end well.
+/// Writes the words of one input as floats, and reports on standard error why it did not end well.
 #[inline(never)]
 pub fn unpack_on<R: Read + Drop, L: Ledger>(
     rt: &HostRuntime,
     words: &WordFloats,
+    limit: &Option<Limit>,
     file: Option<&str>,
     reader: R,
+    output: &mut Output,
     steps: &mut Steps<L>,
 ) -> Status {
-    recode_on(rt, *words, (), "word", file, reader, steps).0
+    let input = WordInput {
+        name: "word",
+        file,
+        limit,
+    };
+    recode_on(rt, *words, (), &input, reader, output, steps).0
 }

@@ -1,9 +1,14 @@
-//! `fixed least`: the least format that holds each numeral of an input exactly.
+//! `fixed least`: finds the least format that holds each numeral of an input exactly.
+
+ghost use Rattle.command_line.specs.Words.{keyword_at};
+ghost use Rattle.fixed.specs.Lines.{IsLeastRadix};
 
 use crate::inputs::{Job, run_inputs};
+use crate::line_layout::layout_asked;
+use crate::options::{LIMIT, OUTPUT, PASS_BLANK, PASS_COMMENTS, TRIM};
 use command_line::given::{Asked, Given};
-use command_line::page::{Operand, Page};
-use fixed_command::Task;
+use command_line::page::{Operand, Page, Row};
+use fixed_command::{LeastLines, Task};
 use fixed_numeral::Radix;
 use fixed_respell::radix_word;
 use fixed_steps::Steps;
@@ -15,22 +20,32 @@ const WORDS: Operand = Operand {
     help: "2, 8, 10 (if left out) or 16, and files",
 };
 
+const WHY: Row = Row {
+    name: "why",
+    letter: None,
+    value: "",
+    choices: &[],
+    help: "If none is left, also the line that rules out each",
+};
+
 pub fn page() -> Page {
     Page {
         name: "least",
         hidden_name: "",
         about: "Find the least format that holds each numeral of an input exactly",
-        usage: "fixed least [RADIX] [FILE]...",
+        usage: "fixed least [OPTIONS] [RADIX] [FILE]...",
         operands: &[WORDS],
         has_numerals: false,
-        options: &[],
+        options: &[WHY, TRIM, PASS_BLANK, PASS_COMMENTS, LIMIT, OUTPUT],
         end: "Example: printf '0.5\\n3\\n' | fixed least",
     }
 }
 
-/// The radix that the first word names, and the place of the first file. A file of such a name is written `./10`, or
-/// after `--`.
-fn radix_and_files(given: &Given<'_, '_>) -> (Radix, usize) {
+/// Returns the radix that the first operand names, and the index of the first file. A file with such a name is written
+/// `./10`, or after `--`.
+fn radix_and_files(given: &Given<'_, '_>) -> (Radix, usize)
+    ensures { IsLeastRadix (keyword_at given.now 0) result.0 result.1 }
+{
     match given.keyword(0) {
         Some(word) => match radix_word(word.as_bytes()) {
             Some(radix) => (radix, 1),
@@ -47,5 +62,14 @@ pub fn run<'a, L: Ledger>(
     steps: &mut Steps<L>,
 ) -> Asked<'a, Status> {
     let (radix, files) = radix_and_files(given);
-    Ok(run_inputs(rt, &Job::Task(Task::Least(radix)), given.from(files), steps))
+    let rule = LeastLines {
+        radix,
+        is_reason_asked: given.has(&WHY),
+    };
+    let task = match layout_asked(given) {
+        Ok(None) => Task::Least(rule),
+        Ok(Some(layout)) => Task::LaidOutLeast(rule, layout),
+        Err(refusal) => return Err(refusal),
+    };
+    run_inputs(rt, &Job::Task(task), "", given, files, steps)
 }

@@ -1,8 +1,7 @@
-//! `fixed lines`: each line is one of `fixed_tool`.
+//! `fixed lines`: answers the lines of `fixed_tool`.
 
 use crate::inputs::{Job, run_inputs};
-use crate::options::LIMIT;
-use crate::settings::limit_of;
+use crate::options::{LIMIT, OUTPUT};
 use command_line::given::{Asked, Given};
 use command_line::page::{FILES, Page};
 use fixed_command::Task;
@@ -18,7 +17,7 @@ pub fn page() -> Page {
         usage: "fixed lines [OPTIONS] [FILE]...",
         operands: &[FILES],
         has_numerals: false,
-        options: &[LIMIT],
+        options: &[LIMIT, OUTPUT],
         end: "Example: echo '10 I16F16 I8F8 checked 3.14159' | fixed lines",
     }
 }
@@ -29,10 +28,5 @@ pub fn run<'a, L: Ledger>(
     given: &Given<'_, 'a>,
     steps: &mut Steps<L>,
 ) -> Asked<'a, Status> {
-    let limit = match given.value(&LIMIT) {
-        Some(word) => Some(limit_of(word)?),
-        None => None,
-    };
-    let job = Job::Task(Task::Lines(limit));
-    Ok(run_inputs(rt, &job, given.from(0), steps))
+    run_inputs(rt, &Job::Task(Task::Lines), "", given, 0, steps)
 }

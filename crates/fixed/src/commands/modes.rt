@@ -1,13 +1,13 @@
-//! `fixed modes`: the rounding modes, and what other tools call them.
+//! `fixed modes`: lists the rounding modes, and their names in other tools.
 
-use command_line::given::{Asked, Given};
+use command_line::given::{Asked, Given, Refusal};
 use command_line::page::Page;
 use command_line::run::write_out;
 use fixed_steps::Steps;
 use line_engine::Status;
 use std::sync::ledger::Ledger;
 
-/// For each mode what a value is rounded to, and its names elsewhere; then the example of the help.
+/// For each mode, what a value is rounded to and its names elsewhere; then the example of the help.
 const TABLE: &str = "\
     nearest    the nearest; of two equally near, the even one\n\
     \x20          IEEE 754 roundTiesToEven, MATLAB convergent, SystemC RND_CONV,\n\
@@ -45,12 +45,15 @@ pub fn page() -> Page {
     }
 }
 
-/// Lists the modes. It reads no option, and takes what every command takes.
+/// Lists the modes. It has the parameters of every command, but reads no option, and refuses operands after `--`.
 pub fn run<'a, L: Ledger>(
     rt: &HostRuntime,
-    _given: &Given<'_, 'a>,
+    given: &Given<'_, 'a>,
     _steps: &mut Steps<L>,
 ) -> Asked<'a, Status> {
+    if let Some(word) = given.words.get(0) {
+        return Err(Refusal::Word(*word, "is not read: the command has no operands"));
+    }
     let modes = match TABLE.split_once("\nExample") {
         Some((modes, _)) => modes,
         None => TABLE,

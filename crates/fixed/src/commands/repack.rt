@@ -1,11 +1,13 @@
-//! `fixed repack`: raw words to raw words of another format.
+//! `fixed repack`: converts raw words to raw words of another format.
 
-use crate::commands::floats::{recode_on, report_recoded};
+use crate::commands::floats::{WordInput, recode_on, report_recoded};
 use crate::inputs::{Job, run_inputs};
-use crate::options::{ENDIAN, ENDIAN_OUT, POLICY, REPORT, TARGET_MODE};
+use crate::options::{ENDIAN, ENDIAN_OUT, LIMIT, OUTPUT, POLICY, REPORT, TARGET_MODE};
 use crate::settings::{endian_of, endian_out_of, format_at, policy_of, target_mode_of};
+use command_line::device::Output;
 use command_line::given::{Asked, Given};
 use command_line::page::{FILES, Operand, Page};
+use fixed_command::Limit;
 use fixed_pack::{Repack, WordReport};
 use fixed_steps::Steps;
 use line_engine::Status;
@@ -30,7 +32,15 @@ pub fn page() -> Page {
         usage: "fixed repack [OPTIONS] SOURCE TARGET [FILE]...",
         operands: &[SOURCE, TARGET, FILES],
         has_numerals: false,
-        options: &[ENDIAN, ENDIAN_OUT, POLICY, TARGET_MODE, REPORT],
+        options: &[
+            ENDIAN,
+            ENDIAN_OUT,
+            POLICY,
+            TARGET_MODE,
+            LIMIT,
+            REPORT,
+            OUTPUT,
+        ],
         end: "Each word becomes the word of its number in TARGET, rounded as --target-mode\n\
               says. The first word that has a bit above the width of SOURCE, or whose number\n\
               is out of range, ends its input, and standard error says which it is and why.\n\
@@ -43,21 +53,28 @@ pub fn page() -> Page {
     }
 }
 
-/// Writes the words of one input as words of another format, and says on standard error why it did not end well.
+/// Writes the words of one input as words of another format, and reports on standard error why it did not end well.
 #[inline(never)]
 pub fn run_on<R: Read + Drop, L: Ledger>(
     rt: &HostRuntime,
     words: &Repack,
+    limit: &Option<Limit>,
     has_report: bool,
     file: Option<&str>,
     reader: R,
+    output: &mut Output,
     steps: &mut Steps<L>,
 ) -> Status {
+    let input = WordInput {
+        name: "word",
+        file,
+        limit,
+    };
     if !has_report {
-        return recode_on(rt, *words, (), "word", file, reader, steps).0;
+        return recode_on(rt, *words, (), &input, reader, output, steps).0;
     }
     let report = WordReport::new(rt.alloc(), *words);
-    let (status, report) = recode_on(rt, *words, report, "word", file, reader, steps);
+    let (status, report) = recode_on(rt, *words, report, &input, reader, output, steps);
     report_recoded(rt, "word", file, status, &report, steps);
     status
 }
@@ -88,5 +105,5 @@ pub fn run<'a, L: Ledger>(
         },
         has_report: given.has(&REPORT),
     };
-    Ok(run_inputs(rt, &job, given.from(2), steps))
+    run_inputs(rt, &job, "", given, 2, steps)
 }

@@ -1,7 +1,10 @@
-//! `fixed sort`: lines `NUMERAL FORMAT` by value.
+//! `fixed sort`: sorts lines `NUMERAL FORMAT` by value.
 
-use crate::inputs::{Job, run_inputs};
-use crate::options::LIMIT;
+ghost use Rattle.std.specs.Prelude.{IfErr, IfOk, List, ℕ};
+ghost use Rattle.fixed.specs.Lines.{IsSortLimitAsked};
+
+use crate::inputs::{Job, run_inputs_within};
+use crate::options::{LIMIT, OUTPUT};
 use crate::settings::limit_of;
 use command_line::given::{Asked, Given, Refusal};
 use command_line::page::{Operand, Page};
@@ -23,14 +26,17 @@ pub fn page() -> Page {
         usage: "fixed sort [limit N | --limit N] [FILE]...",
         operands: &[WORDS],
         has_numerals: false,
-        options: &[LIMIT],
+        options: &[LIMIT, OUTPUT],
         end: "Example: printf '0.5 U7F1\\n-1 I8F0\\n' | fixed sort",
     }
 }
 
-/// The word that names the limit, and the place of the first file. A first word `limit` has a number after it; a file
-/// of such a name is written `./limit`, or after `--`.
-fn limit_and_files<'a>(given: &Given<'_, 'a>) -> Asked<'a, (&'a str, usize)> {
+/// Returns the limit as text, and the index of the first file. If the first operand is `limit`, a number follows it; a
+/// file with this name is written `./limit`, or after `--`.
+fn limit_and_files<'a>(given: &Given<'_, 'a>) -> Asked<'a, (&'a str, usize)>
+    ensures value { IfOk result (λ a. IsSortLimitAsked given.now a.0.now a.1) }
+    ensures refused { IfErr result (λ _. (word : List ℕ) (files : ℕ) → ¬ IsSortLimitAsked given.now word files) }
+{
     let option = given.value(&LIMIT);
     match given.keyword(0) {
         Some("limit") if option.is_some() => Err(Refusal::Word(
@@ -52,6 +58,7 @@ pub fn run<'a, L: Ledger>(
     steps: &mut Steps<L>,
 ) -> Asked<'a, Status> {
     let (word, files) = limit_and_files(given)?;
-    let job = Job::Task(Task::Columns(limit_of(word)?));
-    Ok(run_inputs(rt, &job, given.from(files), steps))
+    let limit = Some(limit_of(word)?);
+    let job = Job::Task(Task::Columns);
+    run_inputs_within(rt, &job, &limit, "", given, files, steps)
 }

@@ -1,20 +1,31 @@
-//! `fixed unpack`: raw words to lines, or to raw floats.
+//! `fixed unpack`: writes raw words as lines or as raw floats.
 
-use crate::commands::floats::{push_bytes, status_of};
+ghost use Rattle.std.specs.Prelude.{IfErr, IfOk};
+ghost use Rattle.fixed.specs.Unpack.{HasFloatsAlone};
+
+use crate::commands::amounts;
+use crate::commands::floats::{push_bytes, status_of, unpack_on};
+use crate::commands::unpack_words::{COUNT, Excerpt, SKIP, excerpt_of};
 use crate::inputs::{Job, run_inputs};
-use crate::options::{ENDIAN, PLACES, PLACES_MODE, POLICY, PRINT, TARGET, TARGET_MODE, UNPACK_TO};
-use crate::settings::{conversion, endian_of, written_floats_of};
-use command_line::device::{Failure, Writer};
+use crate::options::{
+    ENDIAN, LIMIT, OUTPUT, PLACES, PLACES_MODE, POLICY, PRINT, TARGET, TARGET_MODE, UNPACK_TO,
+};
+use crate::settings::{conversion, endian_of, refuse_value, written_floats_of};
+use command_line::device::{Failure, Headed, Output, Skipped, Writer};
 use command_line::given::{Asked, Given, Refusal};
 use command_line::page::{Operand, Page};
 use command_line::report::{Report, report_end};
+use fixed_command::Limit;
 use fixed_io::{StdSink, StdSource};
-use fixed_pack::{UnpackRule, WordFloats, WordRefusal, run_recode};
+use fixed_pack::{Recode, UnpackAmounts, UnpackRule, WordFloats, WordRefusal, run_recode};
 use fixed_steps::Steps;
 use line_engine::Status;
 use run_engine::{Refusals, RefusedLine};
 use std::io::Read;
 use std::sync::ledger::Ledger;
+
+/// Why an option has no meaning for floats.
+const FOR_LINES: &str = "goes with lines alone, not with floats";
 
 const FORMAT: Operand = Operand {
     name: "FORMAT",
@@ -37,6 +48,10 @@ pub fn page() -> Page {
             PRINT,
             PLACES,
             PLACES_MODE,
+            SKIP,
+            COUNT,
+            LIMIT,
+            OUTPUT,
         ],
         end: "A word is the fewest bytes that hold the width of FORMAT. Its line is what\n\
               'fixed convert --from bits' answers to its bits: a word that has a bit above\n\
@@ -49,16 +64,23 @@ pub fn page() -> Page {
               \n\
               With --to f64 or f32 each word becomes the nearest float of IEEE 754, ties to\n\
               even: exact if FORMAT has at most 53 or 24 bits. The first word that is refused\n\
-              ends its input. There is no TARGET then, and --endian is the only other option.\n\
+              ends its input. There is no TARGET then, and of the other options only --endian,\n\
+              --skip, --count, --limit and --output.\n\
+              \n\
+              Each input is read from the byte after the first BYTES on, and up to N words of\n\
+              it. Standard error counts words from the first that is read, and says if there\n\
+              are fewer than BYTES bytes, with status 1. The header of a WAV file usually has\n\
+              44 bytes.\n\
               \n\
               A format is I (signed) or U (unsigned), its whole bits, F and its fraction bits,\n\
-              as in I16F16 or I-9F25, 1 to 64 in all; or as in Q15 and UQ8.8.\n\
+              as in I16F16 or I-9F25, 1 to 64 in all; or as in Q15 and UQ8.8. D0 to D18\n\
+              are decimal formats, for money: a word of D2 counts cents, in 8 bytes.\n\
               \n\
               Example: printf '\\x40\\x00' | fixed unpack Q15 --endian big",
     }
 }
 
-/// Says on standard error how many words were refused, and which was the first, with its bytes and the cause.
+/// Reports on standard error how many words were refused, and the number, bytes and cause of the first.
 fn report_refused(
     rt: &HostRuntime,
     file: Option<&str>,
@@ -75,7 +97,7 @@ fn report_refused(
     report.send(rt);
 }
 
-/// Says on standard error how many bytes are left over at the end of an input, where there are any.
+/// Reports on standard error how many bytes are left over at the end of an input, if any.
 fn report_left_over(rt: &HostRuntime, file: Option<&str>, status: Status, left_over: usize) {
     if status == Status::Faults && left_over > 0 {
         let mut report = Report::of(file);
@@ -85,22 +107,102 @@ fn report_left_over(rt: &HostRuntime, file: Option<&str>, status: Status, left_o
     }
 }
 
-/// Unpacks one input, and says on standard error why it did not end well.
-#[inline(never)]
+/// What is written for each word.
+#[derive(Clone, Copy)]
+pub enum Written {
+    /// A line: the number of the word.
+    Lines(UnpackRule),
+    /// A line: the amount of a word that counts units.
+    Amounts(UnpackAmounts),
+    /// A raw float.
+    Floats(WordFloats),
+}
+
+impl Written {
+    /// Returns the length of a word in bytes.
+    fn size(&self) -> usize {
+        match self {
+            Written::Lines(rule) => rule.count(),
+            Written::Amounts(amounts) => amounts.count(),
+            Written::Floats(words) => words.count(),
+        }
+    }
+}
+
+/// Which words are unpacked, and into what.
+#[derive(Clone, Copy)]
+pub struct Unpacking {
+    pub excerpt: Excerpt,
+    pub written: Written,
+}
+
+/// Unpacks one input, and reports on standard error why it did not end well.
 pub fn run_on<R: Read + Drop, L: Ledger>(
     rt: &HostRuntime,
-    rule: &UnpackRule,
+    unpacking: &Unpacking,
+    limit: &Option<Limit>,
     file: Option<&str>,
     reader: R,
+    output: &mut Output,
+    steps: &mut Steps<L>,
+) -> Status {
+    let excerpt = unpacking.excerpt;
+    let mut headed = Headed::new(reader);
+    let mut skipped = Skipped::new(&mut headed, excerpt.skip);
+    let words = (&mut skipped).take(excerpt.most_bytes(unpacking.written.size()));
+    let status = match &unpacking.written {
+        Written::Lines(rule) => lines_on(rt, rule, limit, file, words, output, steps),
+        Written::Amounts(amounts) => lines_on(rt, amounts, limit, file, words, output, steps),
+        Written::Floats(floats) => unpack_on(rt, floats, limit, file, words, output, steps),
+    };
+    let missing = skipped.missing();
+    if excerpt.skip == 0 && headed.head() == b"RIFF".as_slice() {
+        note_header(rt, file);
+    }
+    if status == Status::Done && missing > 0 && excerpt.count > 0 {
+        return report_short(rt, file, &excerpt, missing);
+    }
+    status
+}
+
+/// Notes on standard error that an input looks like a WAV file.
+fn note_header(rt: &HostRuntime, file: Option<&str>) {
+    let mut report = Report::of(file);
+    report.text(
+        "the input begins with 'RIFF', as a WAV file does: its header is not words, and --skip 44 skips the usual one",
+    );
+    report.send(rt);
+}
+
+/// Reports on standard error that this many of the bytes to skip are missing.
+fn report_short(rt: &HostRuntime, file: Option<&str>, excerpt: &Excerpt, missing: u64) -> Status {
+    let mut report = Report::of(file);
+    report.text("the input ends within the ");
+    report.number(excerpt.skip);
+    report.text(" bytes to skip, after ");
+    report.number(excerpt.skip.saturating_sub(missing));
+    report.send(rt);
+    Status::Faults
+}
+
+/// Writes the words of one input as lines, and reports on standard error why it did not end well.
+#[inline(never)]
+fn lines_on<U: Recode<Cause = WordRefusal> + Copy + Drop, R: Read + Drop, L: Ledger>(
+    rt: &HostRuntime,
+    rule: &U,
+    limit: &Option<Limit>,
+    file: Option<&str>,
+    reader: R,
+    output: &mut Output,
     steps: &mut Steps<L>,
 ) -> Status {
     let failure = Failure::new(None);
     let mut source = StdSource::new(reader);
     let mut sink = StdSink::new(Writer {
-        writer: rt.stdout(),
+        writer: output,
         failure: &failure,
     });
-    let end = run_recode(*rule, Refusals::new(), &mut source, &mut sink, steps);
+    let end = run_recode(limit, *rule, Refusals::new(), &mut source, &mut sink, steps);
     let status = status_of(&end.end);
     if let Some(word) = &end.watch.first {
         report_refused(rt, file, end.watch.count, word);
@@ -116,37 +218,59 @@ pub fn run<'a, L: Ledger>(
     given: &Given<'_, 'a>,
     steps: &mut Steps<L>,
 ) -> Asked<'a, Status> {
+    let (written, files) = match written_of(given) {
+        Ok(found) => found,
+        Err(refusal) => return Err(refusal),
+    };
+    let excerpt = match excerpt_of(given) {
+        Ok(excerpt) => excerpt,
+        Err(refusal) => return Err(refusal),
+    };
+    let job = Job::Unpack(Unpacking { excerpt, written });
+    run_inputs(rt, &job, "", given, files, steps)
+}
+
+/// Returns what is written for each word, and the index of the first file.
+fn written_of<'a>(given: &Given<'_, 'a>) -> Asked<'a, (Written, usize)> {
+    if let Some(format) = amounts::decimal_at(given, 0) {
+        return match amounts::unpack_settings(given, format) {
+            Ok(settings) => Ok((Written::Amounts(settings), 1)),
+            Err(refusal) => Err(refusal),
+        };
+    }
     let (rule, files) = conversion(given, 0)?;
     let endian = endian_of(given)?;
-    let job = match written_floats_of(given)? {
-        None => Job::Unpack(UnpackRule {
+    let written = match written_floats_of(given)? {
+        None => Written::Lines(UnpackRule {
             settings: *rule.settings(),
             endian,
         }),
         Some(layout) => {
             only_floats(given, files)?;
-            Job::UnpackFloats(WordFloats {
+            Written::Floats(WordFloats {
                 format: rule.settings().source,
                 layout,
                 endian,
             })
         }
     };
-    Ok(run_inputs(rt, &job, given.from(files), steps))
+    Ok((written, files))
 }
 
-/// Refuses what goes with lines alone. `files` is the place of the first file.
-fn only_floats<'a>(given: &Given<'_, 'a>, files: usize) -> Asked<'a, ()> {
+/// Refuses arguments that have a meaning only for lines. `files` is the index of the first file.
+fn only_floats<'a>(given: &Given<'_, 'a>, files: usize) -> Asked<'a, ()>
+    ensures value { IfOk result (λ _. HasFloatsAlone given.now files) }
+    ensures refused { IfErr result (λ _. ¬ HasFloatsAlone given.now files) }
+{
     if files > 1 {
         return Err(Refusal::Word(
             given.needed(1, "TARGET")?,
             "is a TARGET, which goes with lines alone, not with floats",
         ));
     }
-    for row in [&POLICY, &TARGET_MODE, &PRINT, &PLACES, &PLACES_MODE] {
-        if given.value(row).is_some() {
-            return Err(Refusal::Option(row.name, "goes with lines alone, not with floats"));
-        }
-    }
-    Ok(())
+    refuse_value(given, &POLICY, FOR_LINES)?;
+    refuse_value(given, &TARGET_MODE, FOR_LINES)?;
+    refuse_value(given, &PRINT, FOR_LINES)?;
+    refuse_value(given, &PLACES, FOR_LINES)?;
+    refuse_value(given, &PLACES_MODE, FOR_LINES)
 }

@@ -1,0 +1,315 @@
+//! `fixed json`: converts the values at a path of lines of JSON.
+
+ghost use Rattle.std.specs.Prelude.{◌≡◌, ◌⊎◌, List, ℕ, IfErr, IfOk, map};
+ghost use Rattle.fixed.specs.Json.{IsJsonFormAsked, IsPathAsked, is_quoted, is_quoted_amount};
+ghost use Rattle.json_lines.specs.Path.{PathStep, step_of};
+
+use crate::commands::amounts;
+use crate::commands::column_words::form_of;
+use crate::explained::push_explanation;
+use crate::inputs::{Job, is_last, run_inputs};
+use crate::options::{
+    FROM, MODE, OUTPUT, PLACES, PLACES_MODE, POLICY, PRINT, RADIX, SOURCE, TARGET, TARGET_MODE,
+};
+use crate::settings::{conversion, note_target_mode};
+use column_engine::FieldRule;
+use command_line::device::{Failure, Output, Unmarked, Writer};
+use command_line::given::{Asked, Given, Refusal};
+use command_line::page::{Operand, Page, Row};
+use command_line::report::{Report, report_end};
+use fixed_amounts::{AmountPrint, AmountSettings};
+use fixed_command::{ConvertRule, FieldForm, FieldNumerals, Offers, Print};
+use fixed_io::{StdSink, StdSource};
+use fixed_numeral::Radix;
+use fixed_steps::Steps;
+use json_lines::{Form, JsonRefusal, JsonTask, PathFault, Step, path_named, run_json};
+use line_engine::Status;
+use std::alloc::Global;
+use std::io::Read;
+use std::sync::ledger::Ledger;
+
+/// How many characters of a refused text a report shows.
+const MAX_TEXT: usize = 40;
+
+const PATH: Operand = Operand {
+    name: "PATH",
+    help: ".name, .[3], .[] for every element, or several in a row",
+};
+
+const TRIM: Row = Row {
+    name: "trim",
+    letter: None,
+    value: "",
+    choices: &[],
+    help: "Blanks around a numeral in a string are left out",
+};
+
+const SKIP_BLANK: Row = Row {
+    name: "skip-blank",
+    letter: None,
+    value: "",
+    choices: &[],
+    help: "A blank line stays as it was",
+};
+
+const KEEP: Row = Row {
+    name: "keep",
+    letter: None,
+    value: "",
+    choices: &[],
+    help: "A line that is refused stays as it was",
+};
+
+/// The options for other spellings of numerals.
+const OFFERS: Offers = Offers {
+    decimal: false,
+    trim: true,
+    radix: true,
+};
+
+/// How a value is converted.
+#[derive(Drop)]
+pub enum ValueRule {
+    /// Into a binary format.
+    Binary(ConvertRule),
+    /// Into a decimal one.
+    Amount(AmountSettings),
+}
+
+/// How lines of JSON are converted.
+#[derive(Drop)]
+pub struct JsonJob<'a> {
+    /// How a value is converted.
+    rule: ValueRule,
+    /// How a value spells a numeral.
+    spelling: FieldForm<'a>,
+    /// The path to the values.
+    steps: Vec<Step<'a>>,
+    /// How they are exchanged.
+    form: Form,
+}
+
+pub fn page() -> Page {
+    Page {
+        name: "json",
+        hidden_name: "",
+        about: "Convert values of lines of JSON, every other byte as it was",
+        usage: "fixed json [OPTIONS] PATH SOURCE [TARGET] [FILE]...",
+        operands: &[PATH, SOURCE, TARGET],
+        has_numerals: false,
+        options: &[
+            FROM,
+            RADIX,
+            POLICY,
+            MODE,
+            TARGET_MODE,
+            PRINT,
+            PLACES,
+            PLACES_MODE,
+            TRIM,
+            SKIP_BLANK,
+            KEEP,
+            OUTPUT,
+        ],
+        end: "Each line is a JSON value. PATH leads from there to numbers, or strings that are\n\
+              numerals: .sensor.celsius, .samples[] (every element), .[0] (the first one), or\n\
+              a point alone. A name with a point or a bracket stands in quotes: .\"a.b\". Names\n\
+              are compared as they are written, escapes too. A line that is not JSON, or has\n\
+              no value at PATH, is refused.\n\
+              \n\
+              A string stays one, and a number is written as a string with --print hex,\n\
+              readmemh or all. D0 to D18 are decimal SOURCEs, for money.\n\
+              \n\
+              Example: fixed json .celsius I8F8 <log.jsonl",
+    }
+}
+
+/// Returns the path.
+fn path_of<'a>(alloc: Global, given: &Given<'_, 'a>) -> Asked<'a, Vec<Step<'a>>>
+    ensures value { IfOk result (λ steps. IsPathAsked given.now (map step_of steps.items)) }
+    ensures refused { IfErr result (λ e. (e ≡ Refusal.NoMemory)
+        ⊎ ((steps : List PathStep) → ¬ IsPathAsked given.now steps)) }
+{
+    let word = given.needed(0, "PATH")?;
+    match path_named(alloc, word.as_bytes()) {
+        Ok(steps) => Ok(steps),
+        Err(PathFault::NoMemory) => Err(Refusal::NoMemory),
+        Err(PathFault::NoPath) => Err(Refusal::Word(
+            word,
+            "is not a path: such as '.name', '.list[]', '.list[3]', '.\"a.b\"' or '.'",
+        )),
+    }
+}
+
+/// Whether a part of an answer is written as a string.
+fn is_quoted(print: Print) -> bool
+    ensures { result ≡ is_quoted print }
+{
+    match print {
+        Print::Text | Print::Places(..) | Print::Value | Print::Bits => false,
+        Print::Hex | Print::Readmemh | Print::All => true,
+    }
+}
+
+/// Whether a part of an amount is written as a string.
+fn is_quoted_amount(print: AmountPrint) -> bool
+    ensures { result ≡ is_quoted_amount print }
+{
+    match print {
+        AmountPrint::Text | AmountPrint::Units => false,
+        AmountPrint::Hex | AmountPrint::HexDigits | AmountPrint::All => true,
+    }
+}
+
+/// Returns how values are exchanged and which lines stay, from the options.
+fn json_form(given: &Given<'_, '_>, quotes: bool) -> Form
+    ensures { IsJsonFormAsked given.now quotes result }
+{
+    Form {
+        quotes,
+        keeps: given.has(&KEEP),
+        skips_blank: given.has(&SKIP_BLANK),
+    }
+}
+
+/// Appends how many lines of an input were refused, with the first of them.
+fn push_refusal(report: &mut Report, count: u64, first: &JsonRefusal) {
+    report.text("lines refused: ");
+    report.number(count);
+    report.text(", the first in line ");
+    report.number(first.number);
+    if first.byte > 0 {
+        report.text(", byte ");
+        report.number(first.byte);
+    }
+    report.text(", '");
+    report.bytes(first.text.as_bytes(), MAX_TEXT);
+    report.text("': ");
+    report.bytes(first.cause.as_bytes(), 160);
+}
+
+/// Reports on standard error how many lines of an input were refused, with the first of them.
+fn report_refused<L: Ledger>(
+    rt: &HostRuntime,
+    job: &JsonJob<'_>,
+    file: Option<&str>,
+    count: u64,
+    first: &JsonRefusal,
+    steps: &mut Steps<L>,
+) {
+    let mut report = Report::of(file);
+    push_refusal(&mut report, count, first);
+    if first.byte > 0 && first.is_whole {
+        if let ValueRule::Binary(rule) = &job.rule {
+            let before = first.byte.saturating_sub(1) as usize;
+            let value = (first.text.as_bytes(), before);
+            let cause = first.cause.as_bytes();
+            push_explanation(&mut report, rule, OFFERS, value, cause, steps);
+        }
+    }
+    report.send(rt);
+}
+
+/// Converts the values of one input by a rule, and reports on standard error why it did not end well.
+#[inline(never)]
+fn run_rule<A: FieldRule<L>, R: Read + Drop, L: Ledger>(
+    rt: &HostRuntime,
+    job: &JsonJob<'_>,
+    rule: &A,
+    file: Option<&str>,
+    reader: R,
+    output: &mut Output,
+    steps: &mut Steps<L>,
+) -> Status {
+    let task = JsonTask {
+        rule,
+        steps: &job.steps,
+        form: job.form,
+    };
+    let failure = Failure::new(None);
+    let mut source = StdSource::new(Unmarked::new(reader));
+    let mut sink = StdSink::new(Writer {
+        writer: output,
+        failure: &failure,
+    });
+    let end = run_json(rt.alloc(), &task, &mut source, &mut sink, steps);
+    if !is_last(end.status) {
+        if let Some(first) = &end.first {
+            report_refused(rt, job, file, end.refused, first, steps);
+        }
+    }
+    report_end(rt, file, end.status, sink.lines(), &failure);
+    end.status
+}
+
+/// Converts the values of one input.
+pub fn run_on<R: Read + Drop, L: Ledger>(
+    rt: &HostRuntime,
+    job: &JsonJob<'_>,
+    file: Option<&str>,
+    reader: R,
+    output: &mut Output,
+    steps: &mut Steps<L>,
+) -> Status {
+    match &job.rule {
+        ValueRule::Binary(rule) => {
+            let numerals = FieldNumerals {
+                rule,
+                radix: rule.settings().radix,
+                form: &job.spelling,
+            };
+            run_rule(rt, job, &numerals, file, reader, output, steps)
+        }
+        ValueRule::Amount(rule) => {
+            let numerals = FieldNumerals {
+                rule,
+                radix: Radix::Dec,
+                form: &job.spelling,
+            };
+            run_rule(rt, job, &numerals, file, reader, output, steps)
+        }
+    }
+}
+
+/// Converts the values of each file.
+pub fn run<'a, L: Ledger>(
+    rt: &HostRuntime,
+    given: &Given<'_, 'a>,
+    steps: &mut Steps<L>,
+) -> Asked<'a, Status> {
+    let path = path_of(rt.alloc(), given)?;
+    let spelling = match form_of(given) {
+        Ok(spelling) => spelling,
+        Err(refusal) => return Err(refusal),
+    };
+    let (rule, quotes, files) = match rule_of(rt, given) {
+        Ok(found) => found,
+        Err(refusal) => return Err(refusal),
+    };
+    let job = Job::Json(JsonJob {
+        rule,
+        spelling,
+        steps: path,
+        form: json_form(given, quotes),
+    });
+    let format = given.needed(1, "SOURCE")?;
+    run_inputs(rt, &job, format, given, files, steps)
+}
+
+/// Returns how a value is converted, whether each answer is a string, and the index of the first file.
+fn rule_of<'a>(rt: &HostRuntime, given: &Given<'_, 'a>) -> Asked<'a, (ValueRule, bool, usize)> {
+    if let Some(format) = amounts::decimal_at(given, 1) {
+        amounts::refuse_target(given, 2)?;
+        let settings = match amounts::amount_settings(given, format) {
+            Ok(settings) => settings,
+            Err(refusal) => return Err(refusal),
+        };
+        let quotes = is_quoted_amount(settings.print);
+        return Ok((ValueRule::Amount(settings), quotes, 2));
+    }
+    amounts::refuse_decimal_target(given, 2)?;
+    let (rule, files) = conversion(given, 1)?;
+    note_target_mode(rt, given, 1, files);
+    let quotes = is_quoted(rule.settings().print);
+    Ok((ValueRule::Binary(rule), quotes, files))
+}
