@@ -143,7 +143,7 @@ enum fixed_code {
   /* The text and a zero byte do not fit into size bytes: nothing of it was written, but *len is its length. */
   FIXED_NO_ROOM = 17,
   FIXED_BAD_OTHER_BITS = 18, /* b is not of its format */
-  FIXED_BAD_PLACES = 19, /* more than 64, or in a style a precision of more than 65535 */
+  FIXED_BAD_PLACES = 19, /* more than 64, in a decimal format more than 18, in a style a precision of more than 65535 */
   FIXED_BAD_ROUNDING = 20,
   FIXED_BAD_WORD = 21, /* the word does not name a format */
   FIXED_BAD_ROWS = 22, /* the sizes are not those of the rows */
@@ -210,8 +210,9 @@ uint32_t fixed_read_literal(const char *text, size_t len, fixed_format format, F
                             fixed_number *out);
 
 /* Finds the format that word[0..len) names, such as I16F16, u0f24, I-9F25 (16 bits, in steps of 2^-25), Q15 or UQ8.8
- * (by ARM's counting); and writes the word of a format, such as I16F16, with a zero byte: *len is its length, at most
- * 8. */
+ * (by ARM's counting), or as in another tool: ap_fixed<16,1>, sfixed(0 downto -15), fi(_,1,16,15),
+ * numerictype(1,16,15), sfix16_En15, and those without a sign. Writes the word of a format, such as I16F16, with a zero
+ * byte: *len is its length, at most 8. */
 uint32_t fixed_format_of_word(const char *word, size_t len, fixed_format *out);
 uint32_t fixed_word_of_format(fixed_format format, char *out, size_t size, size_t *len);
 

@@ -22,6 +22,7 @@
 #include <cstdint>
 #include <cstdlib>
 #include <cstring>
+#include <initializer_list>
 #include <iterator>
 #include <limits>
 #include <optional>
@@ -172,26 +173,12 @@ class format {
     return format(is_signed, width, frac);
   }
 
-  // The format that a name says, such as "I16F16", "u0f24", "I-9F25", "Q15" or "UQ8.8". This works in constants; format_named
-  // asks the library, which may know more names.
+  // The format that a name says, such as "I16F16", "u0f24", "I-9F25", "Q15" or "UQ8.8", or as other tools say it:
+  // "ap_fixed<16,1>", "sfixed(0 downto -15)", "fi(_,1,16,15)", "numerictype(1,16,15)" or "sfix16_En15". This works in
+  // constants; format_named asks the library, which may know more names.
   static constexpr std::optional<format> parse(std::string_view name) noexcept {
-    const bool is_signed = !has(name, 0, 'U');
-    std::size_t at = is_signed ? 0 : 1;
-    const bool is_q = has(name, at, 'Q');
-    if (is_q) ++at;
-    else if (!is_signed || has(name, 0, 'I')) at = 1;
-    else return std::nullopt;
-    const bool is_below = !is_q && has(name, at, '-');
-    if (is_below) ++at;
-    std::uint32_t whole = 1, frac = 0;
-    if (!count_at(name, at, frac)) return std::nullopt;
-    if (at < name.size() || !is_q || !is_signed) {
-      whole = frac;
-      if (!has(name, at, is_q ? '.' : 'F') || !count_at(name, ++at, frac)) return std::nullopt;
-    }
-    if (at != name.size() || (is_q && is_signed && whole == 0)) return std::nullopt;
-    if (is_below) return whole == 0 || whole > frac ? std::nullopt : make(is_signed, frac - whole, frac);
-    return make(is_signed, whole + frac, frac);
+    const auto found = by_counts(name);
+    return found ? found : in_a_tool(name);
   }
 
   constexpr bool is_signed() const noexcept { return it_.is_signed != 0; }
@@ -235,6 +222,85 @@ class format {
     const bool is_zero = count == 0;
     count = count * 10 + static_cast<std::uint32_t>(name[at++] - '0');
     return !is_zero;
+  }
+
+  // The format that a name by counts of bits says, or ARM's.
+  static constexpr std::optional<format> by_counts(std::string_view name) noexcept {
+    const bool is_signed = !has(name, 0, 'U');
+    std::size_t at = is_signed ? 0 : 1;
+    const bool is_q = has(name, at, 'Q');
+    if (is_q) ++at;
+    else if (!is_signed || has(name, 0, 'I')) at = 1;
+    else return std::nullopt;
+    const bool is_below = !is_q && has(name, at, '-');
+    if (is_below) ++at;
+    std::uint32_t whole = 1, frac = 0;
+    if (!count_at(name, at, frac)) return std::nullopt;
+    if (at < name.size() || !is_q || !is_signed) {
+      whole = frac;
+      if (!has(name, at, is_q ? '.' : 'F') || !count_at(name, ++at, frac)) return std::nullopt;
+    }
+    if (at != name.size() || (is_q && is_signed && whole == 0)) return std::nullopt;
+    if (is_below) return whole == 0 || whole > frac ? std::nullopt : make(is_signed, frac - whole, frac);
+    return make(is_signed, whole + frac, frac);
+  }
+
+  // What the two numbers of a name in another tool are: the width and the whole bits, of which the sign bit is one; the
+  // powers of two of the highest and of the lowest bit; the width and the fraction length.
+  enum class numbers { width_and_whole, high_and_low, width_and_frac };
+
+  static constexpr std::optional<format> in_a_tool(std::string_view name) noexcept {
+    for (const bool is_signed : {true, false}) {
+      const std::string_view hls = is_signed ? "ap_fixed<" : "ap_ufixed<", vhdl = is_signed ? "sfixed(" : "ufixed(";
+      const std::string_view simulink = is_signed ? "sfix" : "ufix", sign = is_signed ? "1" : "0";
+      for (const std::string_view comma : {",", ", "}) {
+        if (const auto it = in_form(name, is_signed, {hls}, comma, ">", numbers::width_and_whole)) return it;
+        if (const auto it = in_form(name, is_signed, {"fi(_", comma, sign, comma}, comma, ")")) return it;
+        if (const auto it = in_form(name, is_signed, {"numerictype(", sign, comma}, comma, ")")) return it;
+      }
+      if (const auto it = in_form(name, is_signed, {vhdl}, " downto ", ")", numbers::high_and_low)) return it;
+      if (const auto it = in_form(name, is_signed, {simulink}, "_En", "")) return it;
+      std::size_t at = 0;
+      std::uint32_t width = 0;
+      if (passes(name, at, simulink) && count_at(name, at, width) && at == name.size()) return make(is_signed, width, 0);
+    }
+    return std::nullopt;
+  }
+
+  // The format of a name of these texts, a number, a mark, a number and a tail.
+  static constexpr std::optional<format> in_form(std::string_view name, bool is_signed,
+                                                 std::initializer_list<std::string_view> starts, std::string_view mark,
+                                                 std::string_view tail,
+                                                 numbers kind = numbers::width_and_frac) noexcept {
+    std::size_t at = 0;
+    for (const std::string_view start : starts)
+      if (!passes(name, at, start)) return std::nullopt;
+    int first = 0, second = 0;
+    if (!number_at(name, at, first) || !passes(name, at, mark) || !number_at(name, at, second)) return std::nullopt;
+    if (!passes(name, at, tail) || at != name.size()) return std::nullopt;
+    const int width = kind == numbers::high_and_low ? first + 1 - second : first;
+    const int frac = kind == numbers::width_and_frac    ? second
+                     : kind == numbers::width_and_whole ? first - second
+                                                        : -second;
+    if (width < 0 || frac < 0) return std::nullopt;
+    return make(is_signed, static_cast<std::uint32_t>(width), static_cast<std::uint32_t>(frac));
+  }
+
+  // Moves past a text, if it stands at `at`.
+  static constexpr bool passes(std::string_view name, std::size_t& at, std::string_view part) noexcept {
+    if (name.substr(at, part.size()) != part) return false;
+    at += part.size();
+    return true;
+  }
+
+  // Reads a number of one or two digits, with or without a minus, and moves past it.
+  static constexpr bool number_at(std::string_view name, std::size_t& at, int& number) noexcept {
+    const bool is_below = has(name, at, '-');
+    if (is_below) ++at;
+    std::uint32_t count = 0;
+    if (!count_at(name, at, count) || (is_below && count == 0)) return false;
+    number = is_below ? -static_cast<int>(count) : static_cast<int>(count);
+    return true;
   }
 
   fixed_format it_;

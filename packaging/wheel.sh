@@ -6,7 +6,7 @@ cd "$(dirname "$0")/.."
 version=$1 library=$2 folder=$3
 umask 022
 for python in ${PYTHON:-python3 /usr/bin/python3}; do
-  if "$python" -c 'import build, setuptools, wheel' 2>/dev/null; then break; fi
+  if "$python" -c 'import build.__main__, setuptools, wheel' 2>/dev/null; then break; fi
   python=
 done
 if [ -z "$python" ]; then

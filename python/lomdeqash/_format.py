@@ -36,12 +36,14 @@ class Format:
     together 1 to 64. The whole bits may be fewer than zero: ``I-9F25`` has 16 bits, in steps of 2^-25.
 
     ARM's names are taken as well, in which the sign bit is one of the whole bits: ``Q15`` is ``I1F15``, ``UQ8.8`` is
-    ``U8F8``. Formats are hashable, and ordered by width, then unsigned before signed, then by fraction length.
+    ``U8F8``; and those of other tools: ``ap_fixed<16,1>``, ``sfixed(0 downto -15)``, ``fi(_,1,16,15)``,
+    ``numerictype(1,16,15)``, ``sfix16_En15``. Formats are hashable, and ordered by width, then unsigned before signed,
+    then by fraction length.
 
     ``D0`` to ``D18`` are decimal formats, for money: their bits count units of that many `places`, in 64 bits with a
     sign. They have `read`, `text` and `value`, and are ordered among themselves.
 
-    >>> Format("q15"), Format("I1F15").width, Format("I1F15").frac
+    >>> Format("q15"), Format("ap_fixed<16,1>").width, Format("I1F15").frac
     (Format('I1F15'), 16, 15)
     >>> Format("I4F4").min_bits, Format("I4F4").max_bits, Format("I4F4").ulp
     (-128, 127, Decimal('0.0625'))

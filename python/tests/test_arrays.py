@@ -1,6 +1,7 @@
 """Arrays of numpy: every dtype and layout gives what the same items give one by one."""
 from __future__ import annotations
 
+import math
 from collections.abc import Callable
 from decimal import Decimal
 from fractions import Fraction
@@ -106,6 +107,20 @@ def test_texts_of_any_format(form: Format, listed: list[model.Numeral], policy: 
 def test_floats_of_any_format(form: Format, listed: list[float], policy: PolicyWord, mode: ModeWord) -> None:
     found = form.read(np.array(listed, np.float64), policy=policy, mode=mode, errors="mask")
     assert found.tolist() == form.read(listed, policy=policy, mode=mode, errors="mask")
+
+
+@given(formats(), st.data(), policies, modes)
+def test_floats_of_whole_parts_of_an_ulp(
+    form: Format, data: st.DataObject, policy: PolicyWord, mode: ModeWord
+) -> None:
+    most = 2 ** min(form.width + 1, 53)
+    parts = data.draw(st.lists(st.tuples(st.integers(-most, most), st.integers(-9, 66)), max_size=20))
+    listed = [math.ldexp(number, -form.frac - bits) for number, bits in parts]
+    wanted = [model.read(form, Fraction(number), policy, mode) for number in listed]
+    assert form.read(np.array(listed, np.float64), policy=policy, mode=mode, errors="mask").tolist() == wanted
+    short = np.array(listed, np.float32)
+    wanted = [model.read(form, Fraction(number), policy, mode) for number in short.tolist()]
+    assert form.read(short, policy=policy, mode=mode, errors="mask").tolist() == wanted
 
 
 @given(formats(), st.data(), policies)

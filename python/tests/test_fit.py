@@ -28,10 +28,17 @@ def error_of(form: Format, value: Fraction, mode: ModeWord = "nearest") -> Fract
     return None if bits is None else abs(value - model.value(form, bits))
 
 
-def best(items: list[Fraction], is_signed: bool, widths: tuple[int, ...], bound: Fraction | None) -> Format | None:
+def best(
+    items: list[Fraction],
+    is_signed: bool,
+    widths: tuple[int, ...],
+    bound: Fraction | None,
+    whole: int = 0,
+    beyond: bool = False,
+) -> Format | None:
     """Each format is tried on each value."""
     for width in widths:
-        for frac in range(width, -1, -1):
+        for frac in range(64 if beyond else width - whole, -1, -1):
             errors = [error_of(format_of(is_signed, width, frac), value) for value in items]
             if all(each is not None and (bound is None or each <= bound) for each in errors):
                 return format_of(is_signed, width, frac)
@@ -95,6 +102,37 @@ def test_the_format_within_an_error(items: list[Any], width: int | None, bound: 
             fit(items, width, error=bound)
     else:
         assert fit(items, width, error=bound) == wanted
+
+
+@given(st.lists(values, max_size=4), st.sampled_from([8, 16, 40]), st.integers(0, 20), st.booleans())
+def test_whole_bits_and_fractions_beyond_the_width(items: list[Any], width: int, whole: int, beyond: bool) -> None:
+    fractions = list(map(Fraction, items))
+    options: dict[str, Any] = {"beyond": True} if beyond else {"whole": whole}
+    is_signed = any(value < 0 for value in fractions)
+    wanted = None if whole > width and not beyond else best(fractions, is_signed, (width,), None, **options)
+    if wanted is None:
+        with pytest.raises(ValueError):
+            fit(items, width, **options)
+    else:
+        assert fit(items, width, **options) == wanted
+    bound = Fraction(1, 1000)
+    wanted = best(fractions, is_signed, (8, 16, 32, 64), bound, **options)
+    if wanted is None:
+        with pytest.raises(ValueError):
+            fit(items, error=bound, **options)
+    else:
+        assert fit(items, error=bound, **options) == wanted
+
+
+def test_taps_below_every_number_of_the_width() -> None:
+    taps = ["0.00031", "0.00052", "0.00031"]
+    short, long = fit(taps, 16), fit(taps, 16, beyond=True)
+    assert (short, f"{float(short.greatest_error(taps)):.1e}") == (Format("U0F16"), "4.8e-06")
+    assert (long, f"{float(long.greatest_error(taps)):.1e}") == (Format("U-10F26"), "5.8e-09")
+    wrong: list[Any] = [{"whole": 17}, {"whole": -1}, {"whole": 1, "beyond": True}]
+    for options in wrong:
+        with pytest.raises(ValueError):
+            fit(taps, 16, **options)
 
 
 def test_edges() -> None:

@@ -5,7 +5,7 @@ use core::str::FromStr;
 
 use crate::calls::{self, Enclosure};
 use crate::error::{checked, Error, ErrorKind};
-use crate::{text, Bits, Number, Policy, Radix, Reading, Row, Text};
+use crate::{names, text, Bits, Number, Policy, Radix, Reading, Row, Text};
 
 /// A format: signed or not, from 1 to 64 bits, and how many of them are after the point.
 ///
@@ -45,7 +45,9 @@ impl Format {
         Ok(Format { is_signed: is_signed as u32, width, frac })
     }
 
-    /// The format that a name says, in either case: `I16F16`, `U0F24`, `I-9F25`, `Q15` or `UQ8.8` (by ARM's counting).
+    /// The format that a name says: in either case `I16F16`, `U0F24`, `I-9F25`, `Q15` or `UQ8.8` (by ARM's counting), or
+    /// the name in another tool, such as `ap_fixed<16,1>`, `sfixed(0 downto -15)`, `fi(_,1,16,15)`,
+    /// `numerictype(1,16,15)` or `sfix16_En15`.
     ///
     /// This works in constants. `parse::<Format>()` asks the library, which may know more names.
     ///
@@ -210,72 +212,5 @@ impl fmt::Display for Format {
 impl fmt::Debug for Format {
     fn fmt(&self, f: &mut fmt::Formatter<'_>) -> fmt::Result {
         f.write_str(&self.name())
-    }
-}
-
-/// Names of formats, parsed in constants.
-mod names {
-    /// Whether the byte at `at` is a letter, in either case.
-    const fn has(name: &[u8], at: usize, letter: u8) -> bool {
-        at < name.len() && name[at].to_ascii_uppercase() == letter
-    }
-
-    /// The count at `at`, of one or two digits without a zero before others, and the index after it.
-    const fn count_at(name: &[u8], at: usize) -> Option<(u32, usize)> {
-        if at >= name.len() || !name[at].is_ascii_digit() {
-            return None;
-        }
-        let first = (name[at] - b'0') as u32;
-        if at + 1 >= name.len() || !name[at + 1].is_ascii_digit() {
-            return Some((first, at + 1));
-        }
-        match first {
-            0 => None,
-            _ => Some((first * 10 + (name[at + 1] - b'0') as u32, at + 2)),
-        }
-    }
-
-    /// The count of `letter` and a count, which end the name.
-    const fn count_after(name: &[u8], at: usize, letter: u8) -> Option<u32> {
-        if !has(name, at, letter) {
-            return None;
-        }
-        match count_at(name, at + 1) {
-            Some((count, end)) if end == name.len() => Some(count),
-            _ => None,
-        }
-    }
-
-    /// Whether a name says a signed format, its width, and its fraction length.
-    pub const fn shape_of(name: &[u8]) -> Option<(bool, u32, u32)> {
-        let is_signed = !has(name, 0, b'U');
-        let letters = if is_signed { 0 } else { 1 };
-        if has(name, letters, b'Q') {
-            return shape_of_q(name, is_signed, letters + 1);
-        }
-        if is_signed && !has(name, 0, b'I') {
-            return None;
-        }
-        let is_below = has(name, 1, b'-');
-        match count_at(name, if is_below { 2 } else { 1 }) {
-            Some((whole, at)) => match count_after(name, at, b'F') {
-                Some(frac) if !is_below => Some((is_signed, whole + frac, frac)),
-                Some(frac) if 0 < whole && whole < frac => Some((is_signed, frac - whole, frac)),
-                _ => None,
-            },
-            None => None,
-        }
-    }
-
-    /// The same after the letters of a Q name, from `at`. A signed format has its sign among its whole bits.
-    const fn shape_of_q(name: &[u8], is_signed: bool, at: usize) -> Option<(bool, u32, u32)> {
-        match count_at(name, at) {
-            Some((frac, end)) if is_signed && end == name.len() => Some((true, frac + 1, frac)),
-            Some((whole, end)) if !is_signed || whole > 0 => match count_after(name, end, b'.') {
-                Some(frac) => Some((is_signed, whole + frac, frac)),
-                None => None,
-            },
-            _ => None,
-        }
     }
 }

@@ -36,6 +36,7 @@ mod calls;
 mod error;
 mod fixed_text;
 mod format;
+mod names;
 mod number;
 mod options;
 mod rows;

@@ -22,6 +22,54 @@ fn names_mean_the_same_in_constants_and_to_the_library() {
 }
 
 #[test]
+fn names_in_other_tools_mean_the_same_in_constants_and_to_the_library() {
+    for first in -70_i32..100 {
+        for second in -70_i32..100 {
+            for pattern in [
+                "ap_fixed<@,#>",
+                "ap_ufixed<@, #>",
+                "sfixed(@ downto #)",
+                "ufixed(@ downto #)",
+                "fi(_,1,@,#)",
+                "fi(_, 0, @, #)",
+                "numerictype(0,@,#)",
+                "numerictype(1, @, #)",
+                "ufix@_En#",
+                "sfix@_En#",
+            ] {
+                agrees(&pattern.replace('@', &first.to_string()).replace('#', &second.to_string()));
+            }
+        }
+        agrees(&format!("sfix{first}"));
+        agrees(&format!("ufix{first}"));
+    }
+    const TAP: Format = Format::of("ap_fixed<16,-9>");
+    assert_eq!(TAP, Format::of("I-9F25"));
+    for name in ["sfixed(0 downto -15)", "fi(_,1,16,15)", "numerictype(1, 16, 15)", "sfix16_En15"] {
+        assert_eq!(Format::parse(name), Ok(Q15), "{name}");
+    }
+    for wrong in [
+        "AP_FIXED<16,1>",
+        "ap_fixed<16,1",
+        "ap_fixed<16,+1>",
+        "ap_fixed<16, 1 >",
+        "ap_fixed<16,-0>",
+        "ap_fixed<016,1>",
+        "sfixed(0 downto -0)",
+        "fi(_,1, 16,15)",
+        "fi(_,2,16,15)",
+        "sfix16_E15",
+        "sfix",
+        "sfix16x",
+        "sfix0",
+        "ufix65",
+    ] {
+        assert_eq!(Format::parse(wrong).map_err(|error| error.kind()), Err(ErrorKind::BadWord), "{wrong}");
+        agrees(wrong);
+    }
+}
+
+#[test]
 fn what_is_nearly_a_name_is_none() {
     let wrong = "I I8 I8F U8F08 I08F8 I8F8 .F8 I.F8 I8G8 I8F8F8 Q Q. Q1. Q.15 Q1.F5 Q001 UI8F8 U U8 U8F IQ8 QU8 I8F100 -I8F8 I-8F8 I-0F8 I-1F65 I--1F8 Q-1.9 I8F8x";
     for name in wrong.split(' ').filter(|name| *name != "I8F8") {

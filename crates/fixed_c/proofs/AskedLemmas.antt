@@ -1,4 +1,4 @@
--- What a reading gives, by what it is asked for.
+-- What a call that reads a text returns, from the options of the call.
 use Rattle.std.proofs.Common.{inl, inr, subst, ℕ, List, Result, Ok, Err}
 use Rattle.std.specs.Prelude.{MatchResult}
 use Rattle.fixed_bits.specs.Formats.{FormatParts}
@@ -10,7 +10,7 @@ use Rattle.fixed_c.specs.declared.asked.Asked.{Asked}
 use Rattle.fixed_c.specs.declared.number.FixedNumber.{FixedNumber}
 use Rattle.fixed_c.specs.declared.refusal.Refusal.{Refusal}
 
--- a refusal of what is asked is one of the reading
+-- an invalid option refuses the reading
 pub unnamed : (text : List ℕ) (radix : ℕ) (f : FormatParts) (policy mode : ℕ) (refusal : Refusal) → IsUnnamed radix f policy mode refusal → ReadIsRefused text radix f policy mode refusal
 unnamed text radix f policy mode refusal (inl a) = inl a
 unnamed text radix f policy mode refusal (inr (a, inl b)) = inr (a, inl b)
@@ -19,7 +19,7 @@ unnamed text radix f policy mode refusal (inr (a, inr (b, inr (d, inl e)))) = in
 unnamed text radix f policy mode refusal (inr (a, inr (b, inr (d, inr (e, none))))) = absurd none
 
 module _ (text : List ℕ) (radix : ℕ) (f : FormatParts) (policy mode : ℕ) (asked : Asked) (named : AreNamed radix f policy mode asked) where
-  -- so is one of the text
+  -- a refused text refuses the reading
   pub refused : (refusal : Refusal) → IsNotReadAsAsked text asked refusal → ReadIsRefused text radix f policy mode refusal
   refused refusal why =
       inr (

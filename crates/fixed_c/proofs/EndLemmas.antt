@@ -1,4 +1,4 @@
--- What makes the end of a call the one.
+-- Why a call has at most one end: one result, one refusal and one code.
 use Rattle.std.proofs.Common.{◌==◌, if◌then◌else◌, ◌≡◌, ◌⊎◌, ◌↔◌, ◌∙◌, ℕ, ℤ, Bool, true, false, IsTrue, ◌+◌, ◌≤◌, List, [], ◌∷◌, ◌++◌, length, drop, Result, Ok, Err, MatchResult, inl, inr, refl, sym, ap, subst, arith, FitsSigned}
 use Rattle.std.specs.Int.{w64}
 use Rattle.std.proofs.lemmas.Int.{ints}
@@ -25,7 +25,7 @@ use Rattle.fixed_c.specs.declared.number.FixedNumber.{FixedNumber}
 use Rattle.fixed_c.specs.declared.refusal.Refusal.{Refusal}
 use Rattle.fixed_c.specs.declared.refusal.Refusal.TheVariants.{Numeral, NoRoom}
 
--- ---- ends
+-- ---- ends of a call
 pub end_one : {T : Type 0} (Right : T → Type 0) (Refused : Refusal → Type 0) (old a b : T) (code other : ℕ)
     → (Right a → Right b → a ≡ b) → ((x : T) (r : Refusal) → Right x → Refused r → ⊥) → ((r s : Refusal) → Refused r → Refused s → r ≡ s)
     → EndsWith Right Refused old a code → EndsWith Right Refused old b other → (code ≡ other) × (a ≡ b)
@@ -34,13 +34,13 @@ end_one Right Refused old a b code other same none one (inl p) (inr q) = absurd 
 end_one Right Refused old a b code other same none one (inr p) (inl q) = absurd (none b p.0 q.1 p.2)
 end_one Right Refused old a b code other same none one (inr p) (inr q) = (p.1 ∙ ap refusal_code (one p.0 q.0 p.2 q.2) ∙ sym q.1, p.3 ∙ sym q.3)
 
--- an answer that is right, or a refusal with its cause, was handed over
+-- the call handed over an answer that is right, or a refusal for its cause
 pub handed : {T : Type 0} (answer : Result T Refusal) (Right : T → Type 0) (Refused : Refusal → Type 0) (old new : T) (code : ℕ)
     → MatchResult answer Right Refused → HandsOver answer old new code → EndsWith Right Refused old new code
 handed (Ok given) Right Refused old new code h e = inl (e.0, subst Right (sym e.1) h)
 handed (Err refusal) Right Refused old new code h e = inr (refusal, e.0, h, e.1)
 
--- what is said of an answer follows from what was said
+-- weaker properties of an answer or refusal follow from stronger ones
 pub carried : {T : Type 0} (answer : Result T Refusal) (P Right : T → Type 0) (Q Refused : Refusal → Type 0)
     → ((x : T) → P x → Right x) → ((r : Refusal) → Q r → Refused r) → MatchResult answer P Q → MatchResult answer Right Refused
 carried (Ok x) P Right Q Refused right refused h = right x h
@@ -61,7 +61,7 @@ unless_none Holds bad Others r h none (inr p) = none p.1
 pub kind_one : (Why : ParseErrorKind → Type 0) (r s : Refusal) → ((k l : ParseErrorKind) → Why k → Why l → k ≡ l) → ForKind Why r → ForKind Why s → r ≡ s
 kind_one Why r s one p q = p.1 ∙ ap Numeral (one p.0 q.0 p.2 q.2) ∙ sym q.1
 
--- ---- what a number names
+-- ---- what a code of an option means
 pub radix_one : (r s : Radix) (n : ℕ) → n ≡ base r → n ≡ base s → r ≡ s
 radix_one Bin Bin n e g = refl
 radix_one Oct Oct n e g = refl
@@ -112,7 +112,7 @@ pub mode_one : (a b : ReadMode) (n : ℕ) → n ≡ mode_code a → n ≡ mode_c
 mode_one a b n e g = mode_is a ∙ ap mode_at (sym e ∙ g) ∙ sym (mode_is b)
 
 -- ---- bits
--- bits of 64 are one number
+-- 64 bits stand for one number
 pub number_of_bits : (sign : Bool) (bits n m : ℤ) → FitsSigned w64 bits → has_bits sign bits n → has_bits sign bits m → n ≡ m
 number_of_bits true bits n m fits p q = p ∙ sym q
 number_of_bits false bits n m fits (a, b, inl e) (c, d, inl g) = e ∙ sym g
@@ -166,7 +166,7 @@ placed_is : (text old new : List ℕ) → IsPlaced text old new → new ≡ (tex
 placed_is text old new p =
     sym (take-append-drop (length text + 1) new) ∙ ap (λ x. x ++ drop (length text + 1) new) p.text_is ∙ ap (λ x. (text ++ 0 ∷ []) ++ x) p.rest_is
 
--- the text was placed, or there was no room for it
+-- the text was placed, or it did not fit
 abbrev Placing : List ℕ → List ℕ → List ℕ → ℕ → Type 0
 Placing text old new code = ((code ≡ 0) × IsPlaced text old new) ⊎ ((code ≡ refusal_code NoRoom) × (length old ≤ length text) × (new ≡ old))
 

@@ -1,4 +1,4 @@
--- What a reading of a float gives, by what it is asked for.
+-- What a call that reads a float returns, from the options of the call.
 use Rattle.std.proofs.Common.{◌≡◌, ◌↔◌, inl, inr, subst, ℕ, ℤ, Bool, List, Result, Ok, Err, IsOk, IsTrue}
 use Rattle.std.specs.Prelude.{MatchResult, slice_index}
 use Rattle.fixed_bits.specs.Formats.{FormatParts}
@@ -24,7 +24,7 @@ use Rattle.fixed_c.specs.declared.refusal.Refusal.{Refusal}
 pub not_ok : {A B : Type 0} (r : Result A B) (e : B) → r ≡ Err e → IsOk r → ⊥
 not_ok r e is ok = let none = rw is at ok in absurd (cc)
 
--- ---- what was read, brought into the format
+-- ---- the read number, brought into the format
 abbrev OfNumber : ReadNumber → (FormatParts → ℤ → Type 0) → Type 0
 OfNumber found P = (v : ℤ) → IsNumber (number_in found) v → P found.format v
 
@@ -55,7 +55,7 @@ module _ (layout : FloatLayout) (float : ℕ) (f : FormatParts) (p : Policy) (m 
       let why : (p ≡ Checked) × IsOutOfRange f.signed f.width is.number = subst (λ (g : FormatParts). (p ≡ Checked) × IsOutOfRange g.signed g.width is.number) format (out is.number is.holds) in
       record { number = is.number; read = read_is; out = record { checked = why.0; out = why.1 } }
 
--- ---- a refusal of what is asked is one of the reading
+-- ---- an invalid option refuses the reading
 pub float_unnamed : (layout : FloatLayout) (float : ℕ) (f : FormatParts) (policy mode : ℕ) (refusal : Refusal) → IsFloatUnnamed f policy mode refusal → FloatIsRefused layout float f policy mode refusal
 float_unnamed layout float f policy mode refusal (inl a) = inl a
 float_unnamed layout float f policy mode refusal (inr (a, inl b)) = inr (a, inl b)

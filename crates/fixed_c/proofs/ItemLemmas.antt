@@ -1,4 +1,4 @@
--- Rows that each leave an item, one after another.
+-- Rows that each leave an item and a code, one after another.
 use Rattle.std.proofs.Common.{◌≢◌, ◌+◌, ◌<◌, ℕ, List, length, set, get_or, arith, below_more, get_or-set_other, get_or-set_same}
 
 pub item_more : {T : Type 0} (Row : ℕ → T → ℕ → Type 0) (items : List T) (codes : List ℕ) (i : ℕ) (n : T) (c : ℕ) → i < length items → i < length codes

@@ -1,4 +1,4 @@
--- Each call has one end.
+-- Each call has at most one end.
 use Rattle.std.proofs.Common.{◌≡◌, ◌∙◌, ◌==◌, if◌then◌else◌, nat_lt, ℕ, ℤ, true, List, codes, inl, inr, refl, sym, ap, subst, FitsSigned}
 use Rattle.std.specs.Int.{w64}
 use Rattle.std.proofs.lemmas.Bool.{lt-ltb}
@@ -53,7 +53,7 @@ use Rattle.fixed_c.specs.declared.rounding.WholeRounding.{WholeRounding}
 use Rattle.fixed_c.specs.declared.rounding.WholeRounding.TheVariants.{By, ToZero}
 use Rattle.fixed_c.proofs.EndLemmas.{bits_of_number, bits_one, brought_none, brought_one, end_one, kind_one, mode_one, number_same, policy_one, puts_one, radix_one, text_one, unless_none, unless_one}
 
--- what names a radix, a policy and a mode in two ways names the same
+-- two facts about the named radix, policy and mode hold together
 pub names_joined : (radix policy mode : ℕ) (P Q : Radix → Policy → ReadMode → Type 0) (C : Type 0)
     → ((r : Radix) (p : Policy) (m : ReadMode) → P r p m → Q r p m → C) → Names radix policy mode P → Names radix policy mode Q → C
 names_joined radix policy mode P Q C join p q =
@@ -233,7 +233,7 @@ print_ends_once f bits fits old a b len m n code other =
     text_one (IsPrinted f bits) (PrintIsRefused f bits) old a b len m n code other
     (printed_one f bits fits) (λ t r p. print_none f bits p.number r p.format p.bits_are) (print_refusal f bits)
 
--- ---- two formats
+-- ---- reading through two formats
 module _ (one : RespelledIsTheOne) (none : RefusalHasNone) (kinds : RefusalIsTheOne) (text : List ℕ) (radix : ℕ) (f g : FormatParts) (policy mode : ℕ) where
   abbrev Reaches : FixedNumber → Type 0
   Reaches n = Names radix policy mode (IsReachedAs text f g n.bits n.overflowed)
@@ -401,7 +401,7 @@ pub message_ends_once : MessageEndsOnce
 message_ends_once code old a b len m n c other =
     text_one (IsMessage code) Never old a b len m n c other (λ s t p q. message_is code s p ∙ sym (message_is code t q)) (λ t r p x. x) (λ r s x y. absurd x)
 
--- ---- to places
+-- ---- rounding to decimal places
 module _ (f : FormatParts) (bits : ℤ) (places mode : ℕ) where
   abbrev OfPlaces : Refusal → Type 0
   OfPlaces = Unless (places ≤ 64) BadPlaces Never
@@ -437,7 +437,7 @@ places_ends_once one f bits places mode fits old a b len m n code other =
     text_one (IsPrintedTo f bits places mode) (PlacesIsRefused f bits places mode) old a b len m n code other
     (placed_one f bits places mode one fits) (not_both f bits places mode) (refused_alike f bits places mode)
 
--- ---- rounding
+-- ---- rounding to whole numbers
 rounding_at : ℕ → WholeRounding
 rounding_at n = if n == 0 then By Ceil else (if n == 1 then By Floor else (if n == 2 then By Round else (if n == 3 then By RoundTiesEven else ToZero)))
 

@@ -1,4 +1,5 @@
 mod EndLemmas
+mod KeptLemmas
 mod LawLemmas
 mod ReadLemmas
 mod RowLemmas

@@ -1,4 +1,4 @@
--- What a reading of a decimal gives, by what it is asked for.
+-- What a call that reads an amount returns, from the options of the call.
 use Rattle.std.proofs.Common.{◌≡◌, ◌↔◌, inl, inr, subst, ℕ, ℤ, Bool, List, Result, Ok, Err, IsTrue, true}
 use Rattle.std.specs.Prelude.{MatchResult}
 use Rattle.fixed_bits.specs.Images.{IsImage, IsOutOfRangeBy}
@@ -21,7 +21,7 @@ use Rattle.fixed_c.specs.declared.decimals.DecimalAsked.{DecimalAsked}
 use Rattle.fixed_c.specs.declared.number.FixedNumber.{FixedNumber}
 use Rattle.fixed_c.specs.declared.refusal.Refusal.{Refusal}
 
--- ---- what was read, brought into 64 bits
+-- ---- the read number, brought into 64 bits
 module _ (text : List ℕ) (places : ℕ) (p : Policy) (m : ReadMode) (found : DecimalNumber) (parts : Parts) (has : HasNumeral Dec text parts) (is : IsDecimalReading m parts found) (format : found.format ≡ places) where
   units_are : HasUnits text places m is.number
   units_are = record { parts = parts; has = has; read = subst (λ n. IsReadDecimal m parts n is.number) format is.read }
@@ -41,7 +41,7 @@ module _ (text : List ℕ) (places : ℕ) (p : Policy) (m : ReadMode) (found : D
       let why = out is.number is.holds in
       record { number = is.number; has = units_are; out = record { checked = why.0; out = why.1 } }
 
--- ---- a refusal of what is asked is one of the reading
+-- ---- an invalid option refuses the reading
 pub decimal_unnamed : (text : List ℕ) (places policy mode : ℕ) (refusal : Refusal) → IsDecimalUnnamed places policy mode refusal → DecimalIsRefused text places policy mode refusal
 decimal_unnamed text places policy mode refusal (inl a) = inl a
 decimal_unnamed text places policy mode refusal (inr (a, inl b)) = inr (a, inl b)

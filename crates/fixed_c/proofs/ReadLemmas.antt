@@ -1,4 +1,4 @@
--- What a reading into a format gives C.
+-- What a reading into a format returns to C.
 use Rattle.std.proofs.Common.{◌≡◌, ◌↔◌, subst, ℕ, ℤ, Bool, IsTrue}
 use Rattle.fixed_bits.specs.Formats.{FormatParts}
 use Rattle.fixed_bits.specs.Images.{IsImage, IsOutOfRangeBy}
@@ -15,7 +15,7 @@ use Rattle.fixed_c.specs.Arguments.{NamesFormat}
 use Rattle.fixed_c.specs.Numbers.{flag_of, has_bits}
 use Rattle.fixed_c.specs.Read.{IsReadBy, OverflowsBy}
 
--- what holds of each number that a reading may stand for
+-- a property of each number that a reading may stand for
 abbrev OfNumber : ReadNumber → (FormatParts → ℤ → Type 0) → Type 0
 OfNumber found P = (v : ℤ) → IsNumber (number_in found) v → P found.format v
 

@@ -1,11 +1,11 @@
--- A call over rows, and a call for the word of a format, has one end.
+-- Calls over rows, and calls for the name of a format, have at most one end.
 use Rattle.std.proofs.Common.{◌≡◌, ◌∙◌, ◌+◌, ◌*◌, ◌/◌, ◌%◌, ◌<◌, ℕ, zero, suc, ℤ, pos, List, length, drop, get_or, slice_index, slice_index_or, inl, inr, sym, ap, subst, arith, FitsSigned, div-add-mod', mod-lt}
 use Rattle.std.proofs.Math.Nat.{div-lt_iff_lt-mul}
 use Rattle.std.specs.Int.{w64}
 use Rattle.std.proofs.lemmas.List.{ext_get_or, get_or-drop, get_or-take}
 use Rattle.fixed_bits.specs.Formats.{FormatParts}
 use Rattle.fixed_convert.proofs.Public.{moved_in_is_the_one}
-use Rattle.fixed_respell.proofs.Public.{name_one}
+use Rattle.fixed_names.proofs.Public.{name_one}
 use Rattle.fixed_c.specs.Codes.{refusal_code}
 use Rattle.fixed_c.specs.Laws.{NumberInC}
 use Rattle.fixed_c.specs.Numbers.{flag_of}
@@ -20,7 +20,7 @@ use Rattle.fixed_c.specs.declared.refusal.Refusal.TheVariants.{BadFormat, BadWor
 use Rattle.fixed_c.proofs.EndLemmas.{end_one, puts_one, text_one, unless_none, unless_one}
 use Rattle.fixed_c.proofs.LawLemmas.{convert_in_ends_once, print_none, print_refusal, printed_one, read_ends_once}
 
--- ---- numbers
+-- ---- rows of numbers
 abbrev OnceAt : (ℕ → FixedNumber → ℕ → Type 0) → ℕ → Type 0
 OnceAt Single i = (a b : FixedNumber) (c e : ℕ) → NumberInC a → NumberInC b → Single i a c → Single i b e → (c ≡ e) × (a ≡ b)
 
@@ -57,7 +57,7 @@ convert_rows_once bits f g policy mode old olds fits =
     rows_one (ConvertsRow bits f g policy mode) (HaveBits bits old olds) old olds (λ fit. fit.same)
     (λ fit i l a b c e. convert_in_ends_once moved_in_is_the_one f g policy mode (slice_index_or bits i (pos 0)) (fits i (let x = fit.given in let y = fit.same in omega (arith, l, x, y))) no_number a b c e)
 
--- ---- texts
+-- ---- rows of texts
 puts_row_one : (text old a b : List ℕ) (c e : ℕ) → PutsRow text old a c → PutsRow text old b e → (c ≡ e) × (a ≡ b)
 puts_row_one text old a b c e (inl p) (inl q) = (p.0 ∙ sym q.0, p.2 ∙ sym q.2)
 puts_row_one text old a b c e (inl p) (inr q) = absurd (let h = p.1 in let g = q.1 in omega (arith, h, g))
@@ -71,7 +71,7 @@ prints_row_one f bits old a b c e fits (inl p) (inr q) = absurd (print_none f bi
 prints_row_one f bits old a b c e fits (inr p) (inl q) = absurd (print_none f bits q.1.number p.0 q.1.format q.1.bits_are p.2)
 prints_row_one f bits old a b c e fits (inr p) (inr q) = (p.1 ∙ ap refusal_code (print_refusal f bits p.0 q.0 p.2 q.2) ∙ sym q.1, p.3 ∙ sym q.3)
 
--- a byte of rows is one of its row
+-- a byte of the rows is a byte of its row
 byte_of : (rows : List ℕ) (size k : ℕ) → 0 < size → get_or rows k 0 ≡ get_or (row_at rows size (k / size)) (k % size) 0
 byte_of rows size k some =
     let e : k / size * size + k % size ≡ k = div-add-mod' k size in
@@ -104,7 +104,7 @@ print_rows_once f bits size old olds a b m n count x y code other fits la lb lm 
 pub puts_once : PutsOnce
 puts_once = puts_one
 
--- ---- words of formats
+-- ---- names of formats
 named_made : (a b : FixedFormat) → a.is_signed ≡ b.is_signed → a.width ≡ b.width → a.frac ≡ b.frac → a ≡ b
 named_made a b p q r =
     let made : ℕ → ℕ → ℕ → FixedFormat = λ x y z. record { is_signed = x; width = y; frac = z } in

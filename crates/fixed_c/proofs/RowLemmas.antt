@@ -1,4 +1,4 @@
--- Rows, one after another.
+-- Numbers, codes and texts in rows, row by row.
 use Rattle.std.proofs.Common.{Bool, true, false, ◌≡◌, ◌≢◌, ◌∙◌, ◌+◌, ◌*◌, ◌<◌, ◌≤◌, ◌==◌, if◌then◌else◌, ℕ, List, [], ◌∷◌, ◌++◌, length, take, drop, set, get_or, ◌-◌, ⊎_elim, subst, refl, sym, ap, arith, add-one, add_assoc, below_more, get_or-set_other, get_or-set_same}
 use borrow.Rule.Slice.PartMut.{put_mid}
 use Rattle.std.proofs.lemmas.Bool.{cases_lt}
@@ -9,7 +9,7 @@ use Rattle.std.proofs.Math.Seq.{take-suc-set}
 use Rattle.fixed_c.specs.Rows.{before_zero, refused_of, row_at}
 use Rattle.fixed_c.specs.declared.number.FixedNumber.{FixedNumber}
 
--- ---- how many codes are not 0
+-- ---- the count of codes that are not 0
 refused_append : (cs : List ℕ) (c : ℕ) → refused_of (cs ++ c ∷ []) ≡ refused_of cs + (if c == 0 then 0 else 1)
 refused_append [] c = omega arith
 refused_append (x ∷ cs) c = ap (λ n. (if x == 0 then 0 else 1) + n) (refused_append cs c) ∙ sym (add_assoc (if x == 0 then 0 else 1) (refused_of cs) (if c == 0 then 0 else 1))
@@ -17,7 +17,7 @@ refused_append (x ∷ cs) c = ap (λ n. (if x == 0 then 0 else 1) + n) (refused_
 pub refused_next : (cs : List ℕ) (i c : ℕ) → i < length cs → refused_of (take (i + 1) (set cs i c)) ≡ refused_of (take i cs) + (if c == 0 then 0 else 1)
 refused_next cs i c h = rw (add-one, take-suc-set cs i c h) (refused_append (take i cs) c)
 
--- ---- a row more
+-- ---- one more row
 pub row_more : (Row : ℕ → FixedNumber → ℕ → Type 0) (numbers : List FixedNumber) (codes : List ℕ) (i : ℕ) (n : FixedNumber) (c : ℕ) → i < length numbers → i < length codes
     → ((d : FixedNumber) (k : ℕ) → k < i → Row k (get_or numbers k d) (get_or codes k 0)) → Row i n c
     → (d : FixedNumber) (k : ℕ) → k < i + 1 → Row k (get_or (set numbers i n) k d) (get_or (set codes i c) k 0)
@@ -26,11 +26,11 @@ row_more Row numbers codes i n c lt less before here d =
     (λ k h. let ne : k ≢ i = omega arith in rw (get_or-set_other numbers i k n d ne, get_or-set_other codes i k c 0 ne) (before d k h))
     (rw (get_or-set_same numbers i n d lt, get_or-set_same codes i c 0 less) here)
 
--- ---- where a row is
+-- ---- the place of a row
 pub row_fits : (i size count : ℕ) → i < count → i * size + size ≤ size * count
 row_fits i size count h = let next : i + 1 ≤ count = omega arith in let most : size * (i + 1) ≤ size * count = mul-le-mul_left size next in omega arith
 
--- ---- a text more
+-- ---- one more text
 pub text_more : (Row : ℕ → List ℕ → ℕ → Type 0) (rows new : ℕ → List ℕ) (codes : List ℕ) (i c : ℕ) → i < length codes
     → ((k : ℕ) → k < i → Row k (rows k) (get_or codes k 0)) → ((k : ℕ) → k ≢ i → new k ≡ rows k) → Row i (new i) c
     → (k : ℕ) → k < i + 1 → Row k (new k) (get_or (set codes i c) k 0)
@@ -39,7 +39,7 @@ text_more Row rows new codes i c less before others here =
     (λ k h. let ne : k ≢ i = omega arith in rw (others k ne, get_or-set_other codes i k c 0 ne) (before k h))
     (rw (get_or-set_same codes i c 0 less) here)
 
--- ---- a row is written, and the others stay
+-- ---- writing a row keeps the others
 pub row_set : (size i : ℕ) (xs ys : List ℕ) → i * size + size ≤ length xs → length ys ≡ size → row_at (put_mid (i * size) size xs ys) size i ≡ ys
 row_set size i xs ys h e =
     let n : (i * size + size) - i * size ≡ size = omega arith in
@@ -80,7 +80,7 @@ pub zero_taken : (bs : List ℕ) → take (length (before_zero bs)) bs ≡ befor
 zero_taken [] = refl
 zero_taken (b ∷ bs) = taken_if (b == 0) b bs (zero_taken bs)
 
--- the text of a row where it is
+-- the text of a row, by its place in the rows
 pub text_there : (rows : List ℕ) (start size : ℕ) → drop start (take (start + length (before_zero (take size (drop start rows)))) rows) ≡ before_zero (take size (drop start rows))
 text_there rows start size =
     let row : List ℕ = take size (drop start rows) in

@@ -1,4 +1,4 @@
--- A call that finds the numeral at the beginning of a text has one end.
+-- A call that finds the numeral at the start of a text has at most one end.
 use Rattle.std.proofs.Common.{◌≡◌, ℕ, List, subst}
 use Rattle.fixed_numeral.specs.Cause.{HasCause}
 use Rattle.fixed_numeral.specs.Leading.{IsLeadingNumeral, HasNoLeading, LeadingIsTheOne}

@@ -1,4 +1,4 @@
--- A call that prints in a style has one end.
+-- A call that prints in a style has at most one end.
 use Rattle.std.proofs.Common.{◌≡◌, ◌∙◌, ◌<◌, ◌^◌, ◌==◌, ℕ, ℤ, Bool, if◌then◌else◌, refl, sym, ap, subst, arith}
 use Rattle.std.specs.Prelude.{Option, Some, None}
 use Rattle.std.specs.Char.{IsScalar}
@@ -19,7 +19,7 @@ use Rattle.fixed_c.specs.declared.refusal.Refusal.TheVariants.{BadFormat, BadBit
 use Rattle.fixed_c.specs.declared.style.FixedStyle.{FixedStyle}
 use Rattle.fixed_c.proofs.EndLemmas.{bits_one, text_one, unless_none, unless_one}
 
--- ---- what a number names
+-- ---- what a code of an option means
 notation_at : ℕ → Notation
 notation_at n = if n == 0 then Dec else (if n == 1 then LowerExp else (if n == 2 then UpperExp else (if n == 3 then Bin else (if n == 4 then Oct else (if n == 5 then LowerHex else UpperHex)))))
 

@@ -1,4 +1,4 @@
--- What the numbers that C hands over name.
+-- The meaning of the numbers that C passes.
 use Rattle.std.specs.Prelude.{◌≡◌, ℕ}
 use Rattle.fixed_bits.specs.Formats.{FormatParts, IsFormat}
 use Rattle.fixed_bits.specs.declared.format.Policy.{Policy}
@@ -19,7 +19,7 @@ NamesMode code = (m : ReadMode) × (code ≡ mode_code m)
 abbrev pub NamesFormat : FormatParts → Type 0
 NamesFormat f = IsFormat f.width f.frac
 
--- the three numbers name a radix, a policy and a mode of which something holds
+-- the three numbers name a radix, a policy and a mode, and these satisfy `Holds`
 pub record Names (radix policy mode : ℕ) (Holds : Radix → Policy → ReadMode → Type 0) : Type 0 where
   pub the_radix : Radix
   pub the_policy : Policy

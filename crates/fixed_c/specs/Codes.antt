@@ -1,4 +1,4 @@
--- The codes that calls return, and the numbers that stand for policies and modes.
+-- The codes that calls return, and the numbers for policies and modes.
 use Rattle.std.specs.Prelude.{◌≡◌, ◌⊎◌, ◌<◌, ℕ, List, codes}
 use Rattle.fixed_bits.specs.declared.format.Policy.{Policy}
 use Rattle.fixed_bits.specs.declared.format.Policy.TheVariants.{Checked, Saturating, Wrapping, Symmetric}
@@ -87,7 +87,7 @@ refusal_message BadFill = codes "bad fill character"
 refusal_message BadAlign = codes "bad alignment"
 refusal_message NotFinite = codes "not a finite number"
 
--- text is the message of the code: that of 0, of a refusal, or of a number that is no code
+-- the text is the message of the code: of 0, of a refusal, or of an unknown code
 abbrev pub IsMessage : ℕ → List ℕ → Type 0
 IsMessage code text = ((code ≡ 0) × (text ≡ codes "done"))
     ⊎ ((refusal : Refusal) × (code ≡ refusal_code refusal) × (text ≡ refusal_message refusal))

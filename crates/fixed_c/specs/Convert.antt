@@ -1,4 +1,4 @@
--- What calls that convert, compare and print bits give.
+-- The results of calls that convert, compare and print bits.
 use Rattle.std.specs.Prelude.{◌≡◌, ◌≤◌, ℕ, ℤ, List, false, pos, negsuc}
 use Rattle.std.specs.declared.cmp.Ordering.{Ordering}
 use Rattle.std.specs.declared.cmp.Ordering.TheVariants.{Less, Equal, Greater}
@@ -19,8 +19,7 @@ use Rattle.fixed_c.specs.declared.refusal.Refusal.{Refusal}
 use Rattle.fixed_c.specs.declared.refusal.Refusal.TheVariants.{BadFormat, BadTarget, BadPolicy, BadMode, BadBits}
 use Rattle.fixed_c.specs.declared.refusal.Refusal.TheVariants.{BadOtherBits, BadPlaces}
 
--- both formats are some, and bits of the first, rounded down to the second's fraction length, are brought into the
--- second
+-- both formats are valid, and `bits` is the image in the target of the given bits, rounded down to its fraction length
 pub record IsConverted (source target : FormatParts) (policy : ℕ) (given bits : ℤ) (flag : ℕ) : Type 0 where
   pub source_format : NamesFormat source
   pub target_format : NamesFormat target
@@ -30,7 +29,7 @@ pub record IsConverted (source target : FormatParts) (policy : ℕ) (given bits 
   pub policy_is : policy ≡ policy_code the_policy
   pub brought : IsBrought target the_policy (down number source.frac target.frac) bits flag
 
--- they are not brought into it
+-- the rounded bits have no image in the target
 pub record IsNotConverted (source target : FormatParts) (policy : ℕ) (given : ℤ) : Type 0 where
   pub number : ℤ
   pub given_is : AreBitsOf source given number
@@ -47,8 +46,8 @@ ConvertIsRefused f g policy bits =
     (Unless (AreBits f bits) BadBits
     (ForKind (λ kind. (kind ≡ Overflow) × IsNotConverted f g policy bits)))))
 
--- both formats are some, and bits of the first, moved in a mode to the second's fraction length, are brought into the
--- second
+-- both formats are valid, and `bits` is the image in the target of the given bits, rounded in a mode to its fraction
+-- length
 pub record IsConvertedIn (source target : FormatParts) (policy mode : ℕ) (given bits : ℤ) (flag : ℕ) : Type 0 where
   pub source_format : NamesFormat source
   pub target_format : NamesFormat target
@@ -62,7 +61,7 @@ pub record IsConvertedIn (source target : FormatParts) (policy mode : ℕ) (give
   pub is_moved : IsMovedIn the_mode number source.frac target.frac moved
   pub brought : IsBrought target the_policy moved bits flag
 
--- they are not brought into it
+-- the rounded bits have no image in the target
 pub record IsNotConvertedIn (source target : FormatParts) (policy mode : ℕ) (given : ℤ) : Type 0 where
   pub number : ℤ
   pub given_is : AreBitsOf source given number
@@ -84,13 +83,13 @@ ConvertInIsRefused f g policy mode bits =
     (Unless (AreBits f bits) BadBits
     (ForKind (λ kind. (kind ≡ Overflow) × IsNotConvertedIn f g policy mode bits))))))
 
--- -1, 0 and 1
+-- -1, 0 and 1 for less, equal and greater
 abbrev pub order_code : Ordering → ℤ
 order_code Less = negsuc 0
 order_code Equal = pos 0
 order_code Greater = pos 1
 
--- both formats are some, and this is the order of the values of bits of the two
+-- both formats are valid, and this is the order of the values of their bits
 pub record IsCompared (f g : FormatParts) (a b order : ℤ) : Type 0 where
   pub first_format : NamesFormat f
   pub second_format : NamesFormat g
@@ -112,14 +111,15 @@ CompareIsRefused f g a b =
 abbrev pub PrintIsRefused : FormatParts → ℤ → Refusal → Type 0
 PrintIsRefused f bits = Unless (NamesFormat f) BadFormat (Unless (AreBits f bits) BadBits Never)
 
--- the format is one, and the text is the shortest of the bits
+-- the format is valid, and the text is the shortest for the bits
 pub record IsPrinted (f : FormatParts) (bits : ℤ) (text : List ℕ) : Type 0 where
   pub format : NamesFormat f
   pub number : ℤ
   pub bits_are : AreBitsOf f bits number
   pub shortest : IsShortestText number f.frac text
 
--- the format is one, and the text is the bits to this many decimal places, at most 64, rounded in the mode of a code
+-- the format is valid, and the text is the bits with this many decimal places, at most 64, rounded in the mode of a
+-- code
 pub record IsPrintedTo (f : FormatParts) (bits : ℤ) (places mode : ℕ) (text : List ℕ) : Type 0 where
   pub format : NamesFormat f
   pub number : ℤ

@@ -1,4 +1,4 @@
--- What calls that read texts into decimal formats, and print their numbers, give.
+-- The results of calls that read texts into decimal formats, and that print their numbers.
 use Rattle.std.specs.Prelude.{◌≡◌, ◌⊎◌, ◌≤◌, ℕ, ℤ, List, true}
 use Rattle.fixed_bits.specs.Formats.{FormatParts}
 use Rattle.fixed_bits.specs.declared.format.Policy.{Policy}
@@ -20,34 +20,34 @@ use Rattle.fixed_c.specs.declared.refusal.Refusal.{Refusal}
 use Rattle.fixed_c.specs.declared.refusal.Refusal.TheVariants.{BadMode, BadPlaces, BadPolicy}
 
 -- ---- reading
--- a decimal format has at most 18 places
+-- a valid decimal format has at most 18 places
 abbrev pub NamesDecimal : ℕ → Type 0
 NamesDecimal places = places ≤ 18
 
--- its numbers have 64 bits and a sign
+-- the numbers of a decimal format have 64 bits and a sign
 abbrev pub words : FormatParts
 words = record { signed = true; width = 64; frac = 0 }
 
--- the text is a numeral with this number of units of 10^-places
+-- the text is a numeral that is read as this number of units of 10^-places
 pub record HasUnits (text : List ℕ) (places : ℕ) (m : ReadMode) (number : ℤ) : Type 0 where
   pub parts : Parts
   pub has : HasNumeral Dec text parts
   pub read : IsReadDecimal m parts places number
 
--- the places name a format, and the number of the text is brought into it
+-- the places are valid, and the result is the image of the text's number in the format
 pub record IsDecimalRead (text : List ℕ) (places : ℕ) (n : FixedNumber) (p : Policy) (m : ReadMode) : Type 0 where
   pub format : NamesDecimal places
   pub number : ℤ
   pub has : HasUnits text places m number
   pub brought : IsBrought words p number n.bits n.overflowed
 
--- the number of the text is not brought into the format
+-- the number of the text has no image in the format
 pub record DecimalOverflows (text : List ℕ) (places : ℕ) (p : Policy) (m : ReadMode) : Type 0 where
   pub number : ℤ
   pub has : HasUnits text places m number
   pub out : IsNotBrought words p number
 
--- why there is none: the text is no numeral, or under Checked its number is out of range
+-- why there is no result: the text is not a numeral or, under `Checked`, its number is out of range
 abbrev pub DecimalNotRead : List ℕ → ℕ → Policy → ReadMode → Refusal → Type 0
 DecimalNotRead text places p m =
     ForKind (λ kind. HasCause Dec text kind ⊎ ((kind ≡ Overflow) × DecimalOverflows text places p m))
@@ -60,14 +60,14 @@ DecimalIsRefused text places policy mode =
     (Unless (NamesMode mode) BadMode
     (λ refusal. NamesBoth policy mode (λ p m. DecimalNotRead text places p m refusal))))
 
--- the single call that reads, over the text of a row
+-- the single call that reads, for the text of a row
 abbrev pub ReadsDecimalRow : List ℕ → ℕ → ℕ → ℕ → ℕ → ℕ → FixedNumber → ℕ → Type 0
 ReadsDecimalRow rows size places policy mode i number code = EndsWith
     (λ n. NamesBoth policy mode (IsDecimalRead (text_of_row rows size i) places n))
     (DecimalIsRefused (text_of_row rows size i) places policy mode) no_number number code
 
 -- ---- printing
--- the places name a format, and this is the text of the bits
+-- the places are valid, and this is the text of the bits
 pub record IsDecimalPrinted (bits : ℤ) (places : ℕ) (text : List ℕ) : Type 0 where
   pub format : NamesDecimal places
   pub text_is : text ≡ decimal_format_text bits places
@@ -76,7 +76,7 @@ pub record IsDecimalPrinted (bits : ℤ) (places : ℕ) (text : List ℕ) : Type
 abbrev pub DecimalTextIsRefused : ℕ → Refusal → Type 0
 DecimalTextIsRefused places = Unless (NamesDecimal places) BadPlaces Never
 
--- the text of the bits was put into the row; or the code is that of a refusal, and the row is as it was
+-- the text of the bits was put into the row; or the code is that of a refusal, and the row is unchanged
 abbrev pub PrintsDecimal : ℕ → ℤ → List ℕ → List ℕ → ℕ → Type 0
 PrintsDecimal places bits old new code =
     ((text : List ℕ) × IsDecimalPrinted bits places text × PutsRow text old new code)

@@ -1,4 +1,4 @@
--- What a call that encloses the value of a text gives.
+-- The result of a call that encloses the value of a text.
 use Rattle.std.specs.Prelude.{◌≡◌, ℕ, ℤ, List}
 use Rattle.fixed_bits.specs.Formats.{FormatParts}
 use Rattle.fixed_numeral.specs.Numeral.{base}
@@ -10,7 +10,7 @@ use Rattle.fixed_c.specs.Outcome.{ForKind, Unless}
 use Rattle.fixed_c.specs.declared.refusal.Refusal.{Refusal}
 use Rattle.fixed_c.specs.declared.refusal.Refusal.TheVariants.{BadRadix, BadFormat}
 
--- the format is one, and the bits are those of the two numbers of the format that enclose the value of the text
+-- the format is valid, and `lo` and `hi` are the bits of its two numbers that enclose the value of the text
 pub record IsEnclosedBy (text : List ℕ) (radix : ℕ) (f : FormatParts) (lo hi : ℤ) : Type 0 where
   pub format : NamesFormat f
   pub the_radix : Radix

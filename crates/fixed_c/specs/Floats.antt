@@ -1,4 +1,4 @@
--- What calls that read floats, and give the doubles of bits, give.
+-- The results of calls that read floats, and that return the doubles of bits.
 use Rattle.std.specs.Prelude.{◌≡◌, ℕ, ℤ, List, length, pos, slice_index, slice_index_or}
 use Rattle.fixed_bits.specs.Formats.{FormatParts}
 use Rattle.fixed_bits.specs.declared.format.Policy.{Policy}
@@ -19,7 +19,7 @@ use Rattle.fixed_c.specs.declared.refusal.Refusal.{Refusal}
 use Rattle.fixed_c.specs.declared.refusal.Refusal.TheVariants.{BadFormat, BadPolicy, BadMode, NotFinite}
 
 -- ---- reading
--- the two numbers name a policy and a mode of which something holds
+-- the two numbers name a policy and a mode, and these satisfy `Holds`
 pub record NamesBoth (policy mode : ℕ) (Holds : Policy → ReadMode → Type 0) : Type 0 where
   pub the_policy : Policy
   pub the_mode : ReadMode
@@ -27,7 +27,7 @@ pub record NamesBoth (policy mode : ℕ) (Holds : Policy → ReadMode → Type 0
   pub mode_is : mode ≡ mode_code the_mode
   pub holds : Holds the_policy the_mode
 
--- the format is one, and the read number of a finite float is brought into it
+-- the format is valid, the float is finite, and the result is the image of its rounded number in the format
 pub record IsFloatRead (layout : FloatLayout) (float : ℕ) (f : FormatParts) (n : FixedNumber) (p : Policy)
     (m : ReadMode) : Type 0 where
   pub format : NamesFormat f
@@ -36,14 +36,14 @@ pub record IsFloatRead (layout : FloatLayout) (float : ℕ) (f : FormatParts) (n
   pub read : IsReadFloat m layout float f.frac number
   pub brought : IsBrought f p number n.bits n.overflowed
 
--- the read number of a float is not brought into the format
+-- the rounded number of a float has no image in the format
 pub record FloatOverflows (layout : FloatLayout) (float : ℕ) (f : FormatParts) (p : Policy)
     (m : ReadMode) : Type 0 where
   pub number : ℤ
   pub read : IsReadFloat m layout float f.frac number
   pub out : IsNotBrought f p number
 
--- the refusal of a float by what is asked
+-- the refusal of a float, by the requested reading
 abbrev pub FloatNotRead : FloatLayout → ℕ → FormatParts → Policy → ReadMode → Refusal → Type 0
 FloatNotRead layout float f p m =
     Unless (IsFinite layout float) NotFinite (ForKind (λ kind. (kind ≡ Overflow) × FloatOverflows layout float f p m))
@@ -57,7 +57,7 @@ FloatIsRefused layout float f policy mode =
     (λ refusal. NamesBoth policy mode (λ p m. FloatNotRead layout float f p m refusal))))
 
 -- ---- doubles
--- the format is one, and this is the double nearest to the value of the bits
+-- the format is valid, and this is the double nearest to the value of the bits
 pub record IsDoubleOf (f : FormatParts) (bits : ℤ) (double : ℕ) : Type 0 where
   pub format : NamesFormat f
   pub number : ℤ
@@ -71,7 +71,7 @@ ReadsFloatRow layout floats f policy mode i number code = EndsWith
     (λ n. NamesBoth policy mode (IsFloatRead layout (slice_index floats i) f n))
     (FloatIsRefused layout (slice_index floats i) f policy mode) no_number number code
 
--- the single call that gives a double, for the bits of a row
+-- the single call that returns a double, for the bits of a row
 abbrev pub DoubleRow : List ℤ → FormatParts → ℕ → ℕ → ℕ → Type 0
 DoubleRow bits f i double code = EndsWith (IsDoubleOf f (slice_index_or bits i (pos 0)))
     (PrintIsRefused f (slice_index_or bits i (pos 0))) 0 double code

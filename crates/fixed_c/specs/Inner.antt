@@ -1,4 +1,5 @@
--- Contracts of private functions. Nothing that is public cites them.
+-- Contracts of private functions; nothing public cites them.
 pub mod Asked
 pub mod Decimals
 pub mod Floats
+pub mod KeptRange

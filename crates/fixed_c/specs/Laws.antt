@@ -1,4 +1,4 @@
--- Each call has one end: what C has afterwards and the code are determined by what C gave.
+-- Each call has one end: what C passes determines what C has afterwards and the code.
 use Rattle.std.specs.Prelude.{◌≡◌, ℕ, ℤ, List, FitsSigned}
 use Rattle.std.specs.Int.{w64}
 use Rattle.fixed_bits.specs.Formats.{FormatParts}
@@ -21,12 +21,12 @@ use Rattle.fixed_c.specs.declared.number.FixedNumber.{FixedNumber}
 use Rattle.fixed_c.specs.declared.refusal.Refusal.{Refusal}
 use Rattle.fixed_c.specs.declared.style.FixedStyle.{FixedStyle}
 
--- two ends of a call are one; `InC` says that what C has is of 64 bits
+-- two ends of a call are the same; `InC` says that what C has is of 64 bits
 abbrev pub EndIsTheOne : {T : Type 0} → (T → Type 0) → (T → Type 0) → (Refusal → Type 0) → Type 0
 EndIsTheOne {T = T} InC Right Refused = (old a b : T) (code other : ℕ) → InC a → InC b
     → EndsWith Right Refused old a code → EndsWith Right Refused old b other → (code ≡ other) × (a ≡ b)
 
--- the same of a call that hands a text over
+-- the same for a call that gives a text
 abbrev pub TextIsTheOne : (List ℕ → Type 0) → (Refusal → Type 0) → Type 0
 TextIsTheOne IsRight Refused = (old a b : List ℕ) (len m n : ℕ) (code other : ℕ)
     → TextEnds IsRight Refused old a len m code → TextEnds IsRight Refused old b len n other → (code ≡ other) × (a ≡ b)

@@ -1,4 +1,4 @@
--- What a call that reads a literal gives.
+-- The result of a call that reads a literal.
 use Rattle.std.specs.Prelude.{◌≡◌, ◌⊎◌, ℕ, ℤ, List}
 use Rattle.fixed_bits.specs.Formats.{FormatParts}
 use Rattle.fixed_bits.specs.declared.format.Policy.{Policy}
@@ -13,13 +13,13 @@ use Rattle.fixed_c.specs.Read.{IsReadBy, OverflowsBy}
 use Rattle.fixed_c.specs.declared.refusal.Refusal.{Refusal}
 use Rattle.fixed_c.specs.declared.refusal.Refusal.TheVariants.{BadFormat, BadPolicy}
 
--- the text is a literal, and its number, rounded to the nearest with ties to even, is brought into the format
+-- the text is a literal, and the result is the image in the format of its number, rounded to nearest with ties to even
 pub record IsLiteralReadAs (text : List ℕ) (f : FormatParts) (policy : ℕ) (bits : ℤ) (flag : ℕ) : Type 0 where
   pub the_policy : Policy
   pub policy_is : policy ≡ policy_code the_policy
   pub read : IsReadBy (HasLiteral f.signed text) f bits flag (literal_radix f.signed text) the_policy NearestEven
 
--- why there is none: the text is no literal, or under Checked its number is out of range
+-- why there is no result: the text is not a literal or, under `Checked`, its number is out of range
 abbrev pub IsLiteralNotRead : List ℕ → FormatParts → Policy → ParseErrorKind → Type 0
 IsLiteralNotRead text f p kind = HasLiteralCause f.signed text kind
     ⊎ ((kind ≡ Overflow) × OverflowsBy (HasLiteral f.signed text) f (literal_radix f.signed text) p NearestEven)

@@ -7,7 +7,7 @@ use Rattle.fixed_bits.specs.Ranges.{IsInRange, IsOutOfRange}
 use Rattle.fixed_bits.specs.declared.format.Policy.{Policy}
 use Rattle.fixed_bits.specs.declared.format.Policy.TheVariants.{Checked}
 
--- 64 bits, read by a sign rule, are a number
+-- 64 bits, read by a sign rule, are this number
 abbrev pub has_bits : Bool → ℤ → ℤ → Type 0
 has_bits true bits number = number ≡ bits
 has_bits false bits number = (pos 0 ≤ℤ number) × (number <ℤ pos (2 ^ 64))
@@ -37,11 +37,11 @@ pub record IsBrought (f : FormatParts) (p : Policy) (number bits : ℤ) (flag : 
   pub flag_is : flag ≡ flag_of overflowed
   pub overflowed_is : IsTrue overflowed ↔ IsOutOfRangeBy p f.signed f.width number
 
--- under Checked the number is out of the format's range
+-- the policy is `Checked`, and the number is out of the format's range
 pub record IsNotBrought (f : FormatParts) (p : Policy) (number : ℤ) : Type 0 where
   pub checked : p ≡ Checked
   pub out : IsOutOfRange f.signed f.width number
 
--- a format as C gives it is signed where the first number is not 0
+-- a format as C passes it, which is signed if the first number is not 0
 abbrev pub format_of : ℕ → ℕ → ℕ → FormatParts
 format_of sign width frac = record { signed = if sign == 0 then false else true; width = width; frac = frac }

@@ -1,4 +1,4 @@
--- What a call that reads a text into a format gives.
+-- The result of a call that reads a text into a format.
 use Rattle.std.specs.Prelude.{◌≡◌, ◌⊎◌, ℕ, ℤ, List}
 use Rattle.fixed_bits.specs.Formats.{FormatParts}
 use Rattle.fixed_bits.specs.declared.format.Policy.{Policy}
@@ -15,13 +15,13 @@ use Rattle.fixed_c.specs.Outcome.{ForKind, Unless}
 use Rattle.fixed_c.specs.declared.refusal.Refusal.{Refusal}
 use Rattle.fixed_c.specs.declared.refusal.Refusal.TheVariants.{BadRadix, BadFormat, BadPolicy, BadMode}
 
--- a text with these parts has the number in a format
+-- a text with these parts has this number in a format
 pub record HasNumber (Has : Parts → Type 0) (f : FormatParts) (r : Radix) (m : ReadMode) (number : ℤ) : Type 0 where
   pub parts : Parts
   pub has : Has parts
   pub read : IsReadNumber m r parts f.frac number
 
--- the format is one, and the number of a text with these parts is brought into it
+-- the format is valid, and the result is the image in it of the number of a text with these parts
 pub record IsReadBy (Has : Parts → Type 0) (f : FormatParts) (bits : ℤ) (flag : ℕ) (r : Radix) (p : Policy)
     (m : ReadMode) : Type 0 where
   pub format : NamesFormat f
@@ -29,17 +29,17 @@ pub record IsReadBy (Has : Parts → Type 0) (f : FormatParts) (bits : ℤ) (fla
   pub has : HasNumber Has f r m number
   pub brought : IsBrought f p number bits flag
 
--- the number of a text with these parts is not brought into the format
+-- the number of a text with these parts has no image in the format
 pub record OverflowsBy (Has : Parts → Type 0) (f : FormatParts) (r : Radix) (p : Policy) (m : ReadMode) : Type 0 where
   pub number : ℤ
   pub has : HasNumber Has f r m number
   pub out : IsNotBrought f p number
 
--- the text is a numeral, and its read number is brought into the format
+-- the text is a numeral, and the result is the image of its rounded number in the format
 abbrev pub IsReadAs : List ℕ → FormatParts → ℤ → ℕ → Radix → Policy → ReadMode → Type 0
 IsReadAs text f bits flag r p m = IsReadBy (HasNumeral r text) f bits flag r p m
 
--- why there is none: the text is no numeral, or under Checked its read number is out of range
+-- why there is no result: the text is not a numeral or, under `Checked`, its rounded number is out of range
 abbrev pub IsNotRead : List ℕ → FormatParts → ParseErrorKind → Radix → Policy → ReadMode → Type 0
 IsNotRead text f kind r p m = HasCause r text kind ⊎ ((kind ≡ Overflow) × OverflowsBy (HasNumeral r text) f r p m)
 

@@ -1,4 +1,4 @@
--- What a call that reads a text into one format and rounds the number down to another gives.
+-- The result of a call that reads a text into one format and rounds the number down to another.
 use Rattle.std.specs.Prelude.{◌≡◌, ℕ, ℤ, List, Bool}
 use Rattle.fixed_bits.specs.Formats.{FormatParts}
 use Rattle.fixed_bits.specs.declared.format.Policy.{Policy}
@@ -12,8 +12,8 @@ use Rattle.fixed_c.specs.Outcome.{ForKind, Unless}
 use Rattle.fixed_c.specs.declared.refusal.Refusal.{Refusal}
 use Rattle.fixed_c.specs.declared.refusal.Refusal.TheVariants.{BadRadix, BadFormat, BadTarget, BadPolicy, BadMode}
 
--- the formats are two, the bits are those that are reached from the text, and the flag says whether a number on the way
--- was out of its format
+-- both formats are valid, the bits are those reached from the text, and the flag says whether a number on the way was
+-- out of its format
 pub record IsReachedAs (text : List ℕ) (source target : FormatParts) (bits : ℤ) (flag : ℕ) (r : Radix) (p : Policy)
     (m : ReadMode) : Type 0 where
   pub source_format : NamesFormat source
@@ -24,7 +24,7 @@ pub record IsReachedAs (text : List ℕ) (source target : FormatParts) (bits : �
   pub bits_are : has_bits target.signed bits number
   pub flag_is : flag ≡ flag_of overflowed
 
--- why there are none
+-- why no bits are reached
 abbrev pub IsNotReached : List ℕ → FormatParts → FormatParts → ParseErrorKind → Radix → Policy → ReadMode → Type 0
 IsNotReached text source target kind r p m = IsRefusal m r text p source target kind
 

@@ -1,4 +1,4 @@
--- What a call that rounds bits to a whole number gives.
+-- The result of a call that rounds bits to a whole number.
 use Rattle.std.specs.Prelude.{◌≡◌, ℕ, ℤ}
 use Rattle.fixed_bits.specs.Formats.{FormatParts}
 use Rattle.fixed_bits.specs.declared.format.Policy.{Policy}
@@ -25,12 +25,12 @@ rounding_code ToZero = 4
 abbrev pub NamesRounding : ℕ → Type 0
 NamesRounding code = (r : WholeRounding) × (code ≡ rounding_code r)
 
--- the bits of the whole number that b / 2^f is rounded to
+-- the bits of the whole number to which b / 2^f is rounded
 abbrev pub rounded_bits : WholeRounding → ℤ → ℕ → ℤ
 rounded_bits (By r) b f = whole_bits r b f
 rounded_bits ToZero b f = round_to_zero_bits b f
 
--- the format is one, and the bits of a whole number are brought into it
+-- the format is valid, and the result is the image in it of those bits
 pub record IsRoundedTo (f : FormatParts) (rounding policy : ℕ) (given bits : ℤ) (flag : ℕ) : Type 0 where
   pub format : NamesFormat f
   pub number : ℤ
@@ -41,7 +41,7 @@ pub record IsRoundedTo (f : FormatParts) (rounding policy : ℕ) (given bits : �
   pub policy_is : policy ≡ policy_code the_policy
   pub brought : IsBrought f the_policy (rounded_bits the_rounding number f.frac) bits flag
 
--- they are not brought into it
+-- those bits have no image in the format
 pub record IsNotRoundedTo (f : FormatParts) (rounding policy : ℕ) (given : ℤ) : Type 0 where
   pub number : ℤ
   pub given_is : AreBitsOf f given number

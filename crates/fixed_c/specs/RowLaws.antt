@@ -1,4 +1,4 @@
--- A call over rows, and a call for the word of a format, has one end.
+-- A call over rows has one end, and so has a call for the name of a format.
 use Rattle.std.specs.Prelude.{◌≡◌, ◌<◌, ℕ, ℤ, List, length, slice_index_or, pos, FitsSigned}
 use Rattle.std.specs.Int.{w64}
 use Rattle.fixed_bits.specs.Formats.{FormatParts}
@@ -13,7 +13,7 @@ pub record AreInC (old new : List FixedNumber) : Type 0 where
   pub as_many : length new ≡ length old
   pub each : (d : FixedNumber) (i : ℕ) → i < length new → NumberInC (slice_index_or new i d)
 
--- two ends of a call over rows are one
+-- two ends of a call over rows are the same
 abbrev pub RowsEndOnce : Type 0 → (ℕ → FixedNumber → ℕ → Type 0) → List FixedNumber → List ℕ → Type 0
 RowsEndOnce Fit Single old olds = (a b : List FixedNumber) (m n : List ℕ) (count x y code other : ℕ) → AreInC old a
     → AreInC old b → length m ≡ length olds → length n ≡ length olds → RowsEnd Fit Single old a olds m count x code
@@ -35,7 +35,7 @@ PrintRowsEndOnce = (f : FormatParts) (bits : List ℤ) (size : ℕ) (old olds a 
     → PrintedEnd f bits size old a olds m count x code → PrintedEnd f bits size old b olds n count y other
     → (code ≡ other) × (a ≡ b) × (m ≡ n) × (x ≡ y)
 
--- a buffer takes a text in one way
+-- a text is put into a buffer in one way
 abbrev pub PutsOnce : Type 0
 PutsOnce = (text old a b : List ℕ) (m n code other : ℕ) → PutsText text old a m code → PutsText text old b n other
     → (code ≡ other) × (a ≡ b) × (m ≡ n)
@@ -44,6 +44,6 @@ PutsOnce = (text old a b : List ℕ) (m n code other : ℕ) → PutsText text ol
 abbrev pub WordEndsOnce : Type 0
 WordEndsOnce = (word : List ℕ) → EndIsTheOne (λ given. Unit {0}) (IsFormatNamed word) (WordIsRefused word)
 
--- and a format has one word
+-- a format has one word
 abbrev pub FormatEndsOnce : Type 0
 FormatEndsOnce = (f : FormatParts) → TextIsTheOne (λ word. IsFormatText word f) (FormatIsRefused f)

@@ -1,4 +1,4 @@
--- What a call that finds the numeral at the beginning of a text gives.
+-- The result of a call that finds the numeral at the start of a text.
 use Rattle.std.specs.Prelude.{◌≡◌, ℕ, List}
 use Rattle.fixed_numeral.specs.Cause.{HasCause}
 use Rattle.fixed_numeral.specs.Leading.{HasNoLeading, IsLeadingNumeral}
@@ -10,11 +10,11 @@ use Rattle.fixed_c.specs.Outcome.{ForKind, Unless}
 use Rattle.fixed_c.specs.declared.refusal.Refusal.{Refusal}
 use Rattle.fixed_c.specs.declared.refusal.Refusal.TheVariants.{BadRadix}
 
--- so many bytes are the longest prefix that is a numeral
+-- the longest prefix that is a numeral has `count` bytes
 abbrev pub IsLeadingIn : List ℕ → ℕ → ℕ → Type 0
 IsLeadingIn text radix count = (r : Radix) × (radix ≡ base r) × IsLeadingNumeral r text count
 
--- no prefix is a numeral, and this is why the text is none
+-- no prefix is a numeral, and `kind` says why the text is not
 abbrev pub HasNoLeadingIn : List ℕ → ℕ → ParseErrorKind → Type 0
 HasNoLeadingIn text radix kind = (r : Radix) × (radix ≡ base r) × HasNoLeading r text × HasCause r text kind
 

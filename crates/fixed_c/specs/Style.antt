@@ -1,4 +1,4 @@
--- What a call that prints bits in a style gives.
+-- The result of a call that prints bits in a style.
 use Rattle.std.specs.Prelude.{◌≡◌, ◌<◌, ◌-◌, ◌^◌, ◌==◌, if◌then◌else◌, ℕ, ℤ, List}
 use Rattle.std.specs.Prelude.{Bool, true, false, Option, Some, None}
 use Rattle.std.specs.Char.{IsScalar}
@@ -17,7 +17,7 @@ use Rattle.fixed_c.specs.declared.refusal.Refusal.TheVariants.{BadFormat, BadBit
 use Rattle.fixed_c.specs.declared.refusal.Refusal.TheVariants.{BadWidth, BadFill, BadAlign}
 use Rattle.fixed_c.specs.declared.style.FixedStyle.{FixedStyle}
 
--- ---- what the numbers of a style name
+-- ---- the meaning of the numbers of a style
 abbrev pub notation_code : Notation → ℕ
 notation_code Dec = 0
 notation_code LowerExp = 1
@@ -38,7 +38,7 @@ NamesNotation code = (n : Notation) × (code ≡ notation_code n)
 abbrev pub NamesAlign : ℕ → Type 0
 NamesAlign code = (a : Align) × (code ≡ align_code a)
 
--- 2^32 - 1 is for as many places as the number needs
+-- 2^32 - 1 requests as many places as the number needs
 abbrev pub IsPrecision : ℕ → Option ℕ → Type 0
 IsPrecision code None = code ≡ 2 ^ 32 - 1
 IsPrecision code (Some places) = (code ≡ places) × (places < 2 ^ 16)
@@ -46,11 +46,11 @@ IsPrecision code (Some places) = (code ≡ places) × (places < 2 ^ 16)
 abbrev pub NamesPrecision : ℕ → Type 0
 NamesPrecision code = (precision : Option ℕ) × IsPrecision code precision
 
--- a flag is set where it is not 0
+-- a flag is set if it is not 0
 abbrev pub is_set : ℕ → Bool
 is_set flag = if flag == 0 then false else true
 
--- the character that fills a field: 0 is for a blank
+-- the character that fills a field; 0 means a blank
 abbrev pub fill_at : ℕ → ℕ
 fill_at code = if code == 0 then 32 else code
 
@@ -77,7 +77,7 @@ StyleIsRefused given =
     (Unless (NamesAlign given.align) BadAlign Never))))
 
 -- ---- the call
--- the format is one, and the text shows the bits in the style
+-- the format is valid, and the text gives the bits in the style
 pub record IsPrintedIn (f : FormatParts) (bits : ℤ) (given : FixedStyle) (text : List ℕ) : Type 0 where
   pub format : NamesFormat f
   pub number : ℤ

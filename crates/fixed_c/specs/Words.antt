@@ -1,7 +1,7 @@
--- What the calls for the words of formats give.
+-- The results of the calls for the names of formats.
 use Rattle.std.specs.Prelude.{◌≡◌, ℕ, List}
 use Rattle.fixed_bits.specs.Formats.{FormatParts}
-use Rattle.fixed_respell.specs.FormatNames.{IsFormatName}
+use Rattle.fixed_names.specs.Names.{IsName}
 use Rattle.fixed_respell.specs.Words.{format_text}
 use Rattle.fixed_c.specs.Arguments.{NamesFormat}
 use Rattle.fixed_c.specs.Numbers.{flag_of}
@@ -12,12 +12,12 @@ use Rattle.fixed_c.specs.declared.refusal.Refusal.TheVariants.{BadFormat, BadWor
 
 -- the word names some format
 abbrev pub NamesSomeFormat : List ℕ → Type 0
-NamesSomeFormat word = (f : FormatParts) × IsFormatName word f
+NamesSomeFormat word = (f : FormatParts) × IsName word f
 
--- the word names the format, in which 1 is for a signed one
+-- the word names the given format, whose flag is 1 if it is signed
 pub record IsFormatNamed (word : List ℕ) (given : FixedFormat) : Type 0 where
   pub format : FormatParts
-  pub word_is : IsFormatName word format
+  pub word_is : IsName word format
   pub is_signed : given.is_signed ≡ flag_of format.signed
   pub width : given.width ≡ format.width
   pub frac : given.frac ≡ format.frac

@@ -1,4 +1,4 @@
-//! What the numbers that C hands over name.
+//! The formats, radices, policies and modes that C passes as numbers.
 
 ghost use Rattle.std.specs.Prelude.{◌≡◌, length, MatchResult};
 ghost use Rattle.fixed_bits.specs.declared.format.Policy.{Policy};
@@ -18,22 +18,23 @@ use fixed_numeral::Radix;
 #[repr(C)]
 #[derive(Clone, Copy)]
 pub struct FixedFormat {
-    /// Whether the bits may be negative: 0 where they may not.
+    /// Whether the bits may be negative: 0 if not.
     pub is_signed: u32,
     /// The width in bits.
     pub width: u32,
-    /// How many of the bits are after the point.
+    /// The number of bits after the point.
     pub frac: u32,
 }
 
-/// The bytes that C gives. Where there are none it is a text of our own, since C may then give a null pointer.
+/// Returns the bytes that C passes. If there are none, returns an empty slice of our own, since C may then pass a null
+/// pointer.
 pub fn given_text(text: &[u8]) -> &[u8]
     ensures { result.now ≡ text.now }
 {
     if text.is_empty() { &[] } else { text }
 }
 
-/// The radix of a base.
+/// Returns the radix of a base.
 pub fn radix_of(code: u32) -> Result<Radix, Refusal>
     ensures { MatchResult result (λ r. code ≡ base r) (λ refusal. (¬ NamesRadix code) × (refusal ≡ BadRadix)) }
 {
@@ -46,7 +47,7 @@ pub fn radix_of(code: u32) -> Result<Radix, Refusal>
     }
 }
 
-/// The policy of a code.
+/// Returns the policy of a code.
 pub fn policy_of(code: u32) -> Result<Policy, Refusal>
     ensures { MatchResult result (λ p. code ≡ policy_code p) (λ refusal. (¬ NamesPolicy code) × (refusal ≡ BadPolicy)) }
 {
@@ -62,7 +63,7 @@ pub fn policy_of(code: u32) -> Result<Policy, Refusal>
 /// The code of the mode NearestEven.
 pub const NEAREST_EVEN: u32 = 0;
 
-/// The mode of a code.
+/// Returns the mode of a code.
 pub fn mode_of(code: u32) -> Result<ReadMode, Refusal>
     ensures { MatchResult result (λ m. code ≡ mode_code m) (λ refusal. (¬ NamesMode code) × (refusal ≡ BadMode)) }
 {
@@ -80,7 +81,7 @@ pub fn mode_of(code: u32) -> Result<ReadMode, Refusal>
     }
 }
 
-/// The format that C gives. The refusal where it is none is `bad`.
+/// Returns the format that C passes, or the refusal `bad` if it is invalid.
 pub fn format_of(given: FixedFormat, bad: Refusal) -> Result<Format, Refusal>
     ensures { MatchResult result
         (λ f. (f ≡ format_of given.is_signed given.width given.frac)

@@ -1,4 +1,4 @@
-//! What a reading is asked for, tested once for one text or for many.
+//! The settings of a reading, tested once for one text or for many.
 
 ghost use Rattle.std.specs.Prelude.{◌≡◌, ◌≤◌, MatchResult, drop, length};
 ghost use Rattle.fixed_c.specs.Inner.Asked.{AreNamed, IsNotReadAsAsked, IsReadAsAsked, IsUnnamed};
@@ -20,7 +20,7 @@ pub struct Asked {
     pub mode: ReadMode,
 }
 
-/// What the codes of C ask for.
+/// Returns the settings that the codes of C name.
 pub fn asked_of(radix: u32, format: FixedFormat, policy: u32, mode: u32) -> Result<Asked, Refusal>
     ensures { MatchResult result
         (λ a. AreNamed radix (format_of format.is_signed format.width format.frac) policy mode a)
@@ -38,8 +38,8 @@ pub fn asked_of(radix: u32, format: FixedFormat, policy: u32, mode: u32) -> Resu
     })
 }
 
-/// The numeral that a text ends with from a place on, read as it is asked for. It is quickest where 16 bytes come
-/// before it.
+/// Reads the numeral from index `from` to the end of a text. It is quickest if at least 16 bytes come before the
+/// numeral.
 pub fn read_from(text: &[u8], from: usize, asked: &Asked) -> Result<FixedNumber, Refusal>
     requires place { from ≤ length text.now }
     ensures { MatchResult result (λ n. IsReadAsAsked (drop from text.now) asked.now n)

@@ -1,4 +1,4 @@
-//! Decimals of rows, read as the single call reads them, and rows of the texts of their numbers.
+//! Rows of decimals, read as the single call reads them, and rows of texts of decimal numbers.
 
 ghost use Rattle.std.specs.Prelude.{◌≡◌, ◌≢◌, ◌≤◌, ◌+◌, ◌*◌, ℕ, length};
 ghost use Rattle.fixed_c.specs.DecimalRows.{AreDecimals, DecimalsEnd};
@@ -13,7 +13,7 @@ use crate::rows::{
     NO_NUMBER, before_zero, bits_at, have_rows, have_texts, put_row, refuse_each, tally,
 };
 
-/// How the decimals of rows are read, by the codes of C.
+/// How the decimals of rows are read, in the codes of C.
 #[derive(Clone, Copy)]
 pub struct DecimalReading {
     pub places: u32,
@@ -21,7 +21,7 @@ pub struct DecimalReading {
     pub mode: u32,
 }
 
-/// The single reading of a row.
+/// Reads the text of row `i` as the single call does.
 fn decimal_row(rows: &[u8], size: usize, i: usize, asked: &DecimalAsked) -> (FixedNumber, u32)
     requires row { i * size + size ≤ length rows.now }
     requires format { NamesDecimal asked.now.format }
@@ -34,7 +34,7 @@ fn decimal_row(rows: &[u8], size: usize, i: usize, asked: &DecimalAsked) -> (Fix
     (number, code)
 }
 
-/// Reads each row as it is asked for. Returns how many are refused.
+/// Reads each row with tested settings. Returns the number of refused rows.
 fn asked_decimals(
     rows: &[u8],
     size: usize,
@@ -56,7 +56,7 @@ fn asked_decimals(
     refused
 }
 
-/// Reads each row. Returns how many are refused. What is asked is tested once.
+/// Reads each row. Returns the number of refused rows. The settings are tested once.
 fn each_decimal(
     rows: &[u8],
     size: usize,
@@ -74,7 +74,7 @@ fn each_decimal(
     }
 }
 
-/// Reads rows if the sizes are those of the rows.
+/// Reads rows if the lengths match.
 pub fn read_decimal_rows(
     rows: &[u8],
     size: usize,
@@ -105,7 +105,7 @@ fn print_row(bits: i64, places: u32, row: &mut [u8]) -> u32
     }
 }
 
-/// Prints bits into row `i`, and leaves every other row as it was.
+/// Prints bits into row `i`. Every other row is unchanged.
 fn print_at(bits: i64, places: u32, rows: &mut [u8], size: usize, i: usize) -> u32
     requires { i * size + size ≤ length rows.old }
     ensures printed { PrintsDecimal places bits (row_at rows.old size i) (row_at rows.new size i) result }
@@ -115,7 +115,7 @@ fn print_at(bits: i64, places: u32, rows: &mut [u8], size: usize, i: usize) -> u
     print_row(bits, places, &mut rows[start..start + size])
 }
 
-/// Prints the bits of each row. Returns how many are refused.
+/// Prints the bits of each row. Returns the number of refused rows.
 fn print_each(bits: &[i64], places: u32, rows: &mut [u8], size: usize, codes: &mut [u32]) -> usize
     requires { HaveTexts bits.now rows.old size codes.old }
     ensures { AreDecimals places bits.now size rows.old rows.new codes.new result }
@@ -130,7 +130,7 @@ fn print_each(bits: &[i64], places: u32, rows: &mut [u8], size: usize, codes: &m
     refused
 }
 
-/// Prints the bits of rows if the sizes are those of the rows.
+/// Prints the bits of rows if the lengths match.
 pub fn print_decimal_rows(
     bits: &[i64],
     places: u32,

@@ -1,4 +1,4 @@
-//! Texts read into decimal formats, and their numbers as texts, before they are handed over.
+//! Reading and printing numbers of decimal formats. The results are handed over elsewhere.
 
 ghost use Rattle.std.specs.Prelude.{◌≡◌, MatchResult};
 ghost use Rattle.fixed_c.specs.Decimals.{DecimalIsRefused, DecimalTextIsRefused, IsDecimalPrinted, IsDecimalRead};
@@ -26,7 +26,7 @@ pub struct DecimalAsked {
     pub mode: ReadMode,
 }
 
-/// The decimal format of a count of places.
+/// Returns the decimal format with `places` places.
 fn decimal_format_of(places: u32) -> Result<DecimalFormat, Refusal>
     ensures { MatchResult result (λ f. (f ≡ places) × NamesDecimal places)
         (λ refusal. (¬ NamesDecimal places) × (refusal ≡ BadPlaces)) }
@@ -37,7 +37,7 @@ fn decimal_format_of(places: u32) -> Result<DecimalFormat, Refusal>
     }
 }
 
-/// What the codes of C ask for.
+/// Returns the settings that the codes of C name.
 pub fn decimal_asked_of(places: u32, policy: u32, mode: u32) -> Result<DecimalAsked, Refusal>
     ensures { MatchResult result (AreDecimalNamed places policy mode) (IsDecimalUnnamed places policy mode) }
 {
@@ -51,7 +51,7 @@ pub fn decimal_asked_of(places: u32, policy: u32, mode: u32) -> Result<DecimalAs
     })
 }
 
-/// A text, read as it is asked for.
+/// Reads a text with tested settings.
 pub fn read_decimal(text: &[u8], asked: &DecimalAsked) -> Result<FixedNumber, Refusal>
     requires { NamesDecimal asked.now.format }
     ensures { MatchResult result (IsDecimalReadAsAsked text.now asked.now)
@@ -70,7 +70,7 @@ pub fn read_decimal(text: &[u8], asked: &DecimalAsked) -> Result<FixedNumber, Re
     }
 }
 
-/// A text, read into the decimal format of a count of places.
+/// Reads a text into the decimal format with `places` places.
 pub fn decimal_read(
     text: &[u8],
     places: u32,
@@ -86,7 +86,7 @@ pub fn decimal_read(
     }
 }
 
-/// The text of bits in the decimal format of a count of places.
+/// Returns the text of bits in the decimal format with `places` places.
 pub fn decimal_text_of(bits: i64, places: u32) -> Result<TextBuffer<41>, Refusal>
     ensures { MatchResult result (IsDecimalPrinted bits places) (DecimalTextIsRefused places) }
 {
@@ -96,7 +96,7 @@ pub fn decimal_text_of(bits: i64, places: u32) -> Result<TextBuffer<41>, Refusal
     Ok(text)
 }
 
-/// Hands over bits in the decimal format of a count of places.
+/// Hands over the text of bits in the decimal format with `places` places.
 pub fn print_decimal(bits: i64, places: u32, out: &mut [u8], len: &mut usize) -> u32
     ensures { TextEnds (IsDecimalPrinted bits places) (DecimalTextIsRefused places) out.old out.new len.old len.new
         result }

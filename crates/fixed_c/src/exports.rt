@@ -47,7 +47,7 @@ use crate::texts::{answer_line, print_bits, print_places, put_text};
 use crate::words::{named_format, put_word};
 use std::num::f64_to_bits_with_nan;
 
-/// A numeral in a radix of 2, 8, 10 or 16, as a number of a format: `fixed_read_text` of the header.
+/// Reads a numeral in radix 2, 8, 10 or 16 as a number of a format: `fixed_read_text` of the header.
 #[unsafe(no_mangle)]
 pub extern "C" fn fixed_read_text(
     text: &[u8],
@@ -66,7 +66,7 @@ pub extern "C" fn fixed_read_text(
     hand_over(read(given_text(text), radix, format, policy, mode), out)
 }
 
-/// The shortest decimal that reads back as the bits: `fixed_print_bits` of the header.
+/// Prints the shortest decimal that reads back as the bits: `fixed_print_bits` of the header.
 #[unsafe(no_mangle)]
 pub extern "C" fn fixed_print_bits(
     bits: i64,
@@ -82,7 +82,7 @@ pub extern "C" fn fixed_print_bits(
     print_bits(bits, format, out, len)
 }
 
-/// Bits of one format, rounded down to another: `fixed_convert_bits` of the header.
+/// Converts bits to another format, rounding down: `fixed_convert_bits` of the header.
 #[unsafe(no_mangle)]
 pub extern "C" fn fixed_convert_bits(
     bits: i64,
@@ -100,7 +100,7 @@ pub extern "C" fn fixed_convert_bits(
     hand_over(convert(bits, source, target, policy), out)
 }
 
-/// A text read into one format and rounded down to another: `fixed_respell_text` of the header.
+/// Reads a text into one format and rounds it down to another: `fixed_respell_text` of the header.
 #[unsafe(no_mangle)]
 pub extern "C" fn fixed_respell_text(
     text: &[u8],
@@ -123,7 +123,7 @@ pub extern "C" fn fixed_respell_text(
     )
 }
 
-/// The order of the values of bits of two formats: `fixed_compare_bits` of the header.
+/// Compares the values of bits of two formats: `fixed_compare_bits` of the header.
 #[unsafe(no_mangle)]
 pub extern "C" fn fixed_compare_bits(
     a: i64,
@@ -141,7 +141,7 @@ pub extern "C" fn fixed_compare_bits(
     hand_over(order_by_value(a, a_format, b, b_format), order)
 }
 
-/// The numbers of a format between which the value of a text lies: `fixed_enclose_text` of the header.
+/// Finds the two numbers of a format that enclose the value of a text: `fixed_enclose_text` of the header.
 #[unsafe(no_mangle)]
 pub extern "C" fn fixed_enclose_text(
     text: &[u8],
@@ -156,7 +156,7 @@ pub extern "C" fn fixed_enclose_text(
     hand_over(ends_around(given_text(text), radix, format), out)
 }
 
-/// The answer to a line: `fixed_answer_line` of the header.
+/// Answers a line: `fixed_answer_line` of the header.
 #[unsafe(no_mangle)]
 pub extern "C" fn fixed_answer_line(
     line: &[u8],
@@ -169,7 +169,7 @@ pub extern "C" fn fixed_answer_line(
     answer_line(given_text(line), out, len, is_fault)
 }
 
-/// The message of a code: `fixed_message` of the header.
+/// Writes the message of a code: `fixed_message` of the header.
 #[unsafe(no_mangle)]
 pub extern "C" fn fixed_message(code: u32, out: &mut [u8], len: &mut usize) -> u32
     ensures { TextEnds (IsMessage code) Never out.old out.new len.old len.new result }
@@ -177,7 +177,7 @@ pub extern "C" fn fixed_message(code: u32, out: &mut [u8], len: &mut usize) -> u
     put_text(message_of(code).as_bytes(), out, len)
 }
 
-/// Bits to a count of decimal places, ties to even: `fixed_print_places` of the header.
+/// Prints bits to `places` decimal places, ties to even: `fixed_print_places` of the header.
 #[unsafe(no_mangle)]
 pub extern "C" fn fixed_print_places(
     bits: i64,
@@ -194,7 +194,7 @@ pub extern "C" fn fixed_print_places(
     print_places(bits, format, places, NEAREST_EVEN, out, len)
 }
 
-/// Bits to a count of decimal places in a mode: `fixed_print_places_mode` of the header.
+/// Prints bits to `places` decimal places in a mode: `fixed_print_places_mode` of the header.
 #[unsafe(no_mangle)]
 pub extern "C" fn fixed_print_places_mode(
     bits: i64,
@@ -212,7 +212,7 @@ pub extern "C" fn fixed_print_places_mode(
     print_places(bits, format, places, mode, out, len)
 }
 
-/// Bits rounded to a whole number: `fixed_round_bits` of the header.
+/// Rounds bits to a whole number: `fixed_round_bits` of the header.
 #[unsafe(no_mangle)]
 pub extern "C" fn fixed_round_bits(
     bits: i64,
@@ -230,7 +230,7 @@ pub extern "C" fn fixed_round_bits(
     hand_over(round(bits, format, rounding, policy), out)
 }
 
-/// Bits of one format, moved in a mode to another: `fixed_convert_bits_mode` of the header.
+/// Converts bits to another format in a mode: `fixed_convert_bits_mode` of the header.
 #[unsafe(no_mangle)]
 pub extern "C" fn fixed_convert_bits_mode(
     bits: i64,
@@ -249,7 +249,7 @@ pub extern "C" fn fixed_convert_bits_mode(
     hand_over(convert_in(bits, source, target, policy, mode), out)
 }
 
-/// A literal as a number of a format: `fixed_read_literal` of the header.
+/// Reads a literal as a number of a format: `fixed_read_literal` of the header.
 #[unsafe(no_mangle)]
 pub extern "C" fn fixed_read_literal(
     text: &[u8],
@@ -264,7 +264,7 @@ pub extern "C" fn fixed_read_literal(
     hand_over(literal(given_text(text), format, policy), out)
 }
 
-/// The format of a word: `fixed_format_of_word` of the header.
+/// Finds the format that a word names: `fixed_format_of_word` of the header.
 #[unsafe(no_mangle)]
 pub extern "C" fn fixed_format_of_word(word: &[u8], out: &mut FixedFormat) -> u32
     ensures { EndsWith (IsFormatNamed word.now) (WordIsRefused word.now) out.old out.new result }
@@ -272,7 +272,7 @@ pub extern "C" fn fixed_format_of_word(word: &[u8], out: &mut FixedFormat) -> u3
     hand_over(named_format(given_text(word)), out)
 }
 
-/// The word of a format: `fixed_word_of_format` of the header.
+/// Writes the name of a format: `fixed_word_of_format` of the header.
 #[unsafe(no_mangle)]
 pub extern "C" fn fixed_word_of_format(format: FixedFormat, out: &mut [u8], len: &mut usize) -> u32
     ensures { TextEnds
@@ -282,7 +282,7 @@ pub extern "C" fn fixed_word_of_format(format: FixedFormat, out: &mut [u8], len:
     put_word(format, out, len)
 }
 
-/// The numerals of rows as numbers of a format: `fixed_read_rows` of the header.
+/// Reads the numerals of rows as numbers of a format: `fixed_read_rows` of the header.
 #[unsafe(no_mangle)]
 pub extern "C" fn fixed_read_rows(
     rows: &[u8],
@@ -308,7 +308,7 @@ pub extern "C" fn fixed_read_rows(
     read_rows(given_text(rows), size, reading, out, codes, refused)
 }
 
-/// The bits of rows as texts: `fixed_print_rows` of the header.
+/// Prints bits into rows of text: `fixed_print_rows` of the header.
 #[unsafe(no_mangle)]
 pub extern "C" fn fixed_print_rows(
     bits: &[i64],
@@ -324,7 +324,7 @@ pub extern "C" fn fixed_print_rows(
     print_rows(bits, format, rows, size, codes, refused)
 }
 
-/// Bits of rows, moved in a mode to another format: `fixed_convert_rows` of the header.
+/// Converts the bits of rows to another format in a mode: `fixed_convert_rows` of the header.
 #[unsafe(no_mangle)]
 pub extern "C" fn fixed_convert_rows(
     bits: &[i64],
@@ -350,7 +350,7 @@ pub extern "C" fn fixed_convert_rows(
     convert_rows(bits, conversion, out, codes, refused)
 }
 
-/// A decimal numeral as a number of a decimal format: `fixed_read_decimal` of the header.
+/// Reads a decimal numeral as a number of a decimal format: `fixed_read_decimal` of the header.
 #[unsafe(no_mangle)]
 pub extern "C" fn fixed_read_decimal(
     text: &[u8],
@@ -365,7 +365,7 @@ pub extern "C" fn fixed_read_decimal(
     hand_over(decimal_read(given_text(text), places, policy, mode), out)
 }
 
-/// A number of a decimal format as a text with all of its places: `fixed_print_decimal` of the header.
+/// Prints a number of a decimal format with all of its places: `fixed_print_decimal` of the header.
 #[unsafe(no_mangle)]
 pub extern "C" fn fixed_print_decimal(
     bits: i64,
@@ -379,7 +379,7 @@ pub extern "C" fn fixed_print_decimal(
     print_decimal(bits, places, out, len)
 }
 
-/// Decimal numerals of rows as numbers of a decimal format: `fixed_read_decimal_rows` of the header.
+/// Reads the numerals of rows as numbers of a decimal format: `fixed_read_decimal_rows` of the header.
 #[unsafe(no_mangle)]
 pub extern "C" fn fixed_read_decimal_rows(
     rows: &[u8],
@@ -402,7 +402,7 @@ pub extern "C" fn fixed_read_decimal_rows(
     read_decimal_rows(given_text(rows), size, reading, out, codes, refused)
 }
 
-/// Numbers of a decimal format as texts of rows: `fixed_print_decimal_rows` of the header.
+/// Prints numbers of a decimal format into rows of text: `fixed_print_decimal_rows` of the header.
 #[unsafe(no_mangle)]
 pub extern "C" fn fixed_print_decimal_rows(
     bits: &[i64],
@@ -417,7 +417,7 @@ pub extern "C" fn fixed_print_decimal_rows(
     print_decimal_rows(bits, places, rows, size, codes, refused)
 }
 
-/// A double by its exact value, as a number of a format: `fixed_read_double` of the header. C passes its value.
+/// Reads the exact value of a double as a number of a format: `fixed_read_double` of the header. C passes the double.
 #[unsafe(no_mangle)]
 pub extern "C" fn fixed_read_double(
     value: f64,
@@ -436,7 +436,7 @@ pub extern "C" fn fixed_read_double(
     hand_over(double_read(bits, format, policy, mode), out)
 }
 
-/// Doubles of rows as numbers of a format: `fixed_read_doubles` of the header. C has their bits as doubles.
+/// Reads rows of doubles as numbers of a format: `fixed_read_doubles` of the header. In C the values are doubles.
 #[unsafe(no_mangle)]
 pub extern "C" fn fixed_read_doubles(
     values: &[u64],
@@ -459,7 +459,7 @@ pub extern "C" fn fixed_read_doubles(
     read_doubles(values, reading, out, codes, refused)
 }
 
-/// Floats of rows as numbers of a format: `fixed_read_floats` of the header. C has their bits as floats.
+/// Reads rows of floats as numbers of a format: `fixed_read_floats` of the header. In C the values are floats.
 #[unsafe(no_mangle)]
 pub extern "C" fn fixed_read_floats(
     values: &[u32],
@@ -482,7 +482,7 @@ pub extern "C" fn fixed_read_floats(
     read_floats(values, reading, out, codes, refused)
 }
 
-/// The double nearest to the value of bits: `fixed_double_of_bits` of the header. C has its bits as a double.
+/// Finds the double nearest to the value of bits: `fixed_double_of_bits` of the header. In C `out` is a double.
 #[unsafe(no_mangle)]
 pub extern "C" fn fixed_double_of_bits(bits: i64, format: FixedFormat, out: &mut u64) -> u32
     ensures { EndsWith
@@ -492,7 +492,7 @@ pub extern "C" fn fixed_double_of_bits(bits: i64, format: FixedFormat, out: &mut
     hand_over(double_of(bits, format), out)
 }
 
-/// The doubles nearest to the values of the bits of rows: `fixed_doubles_of_bits` of the header.
+/// Finds the doubles nearest to the values of rows of bits: `fixed_doubles_of_bits` of the header.
 #[unsafe(no_mangle)]
 pub extern "C" fn fixed_doubles_of_bits(
     bits: &[i64],
@@ -508,7 +508,7 @@ pub extern "C" fn fixed_doubles_of_bits(
     doubles_of(bits, format, out, codes, refused)
 }
 
-/// The bits of rows to a count of decimal places in a mode: `fixed_print_places_rows` of the header.
+/// Prints the bits of rows to `places` decimal places in a mode: `fixed_print_places_rows` of the header.
 #[unsafe(no_mangle)]
 pub extern "C" fn fixed_print_places_rows(
     bits: &[i64],
@@ -531,7 +531,7 @@ pub extern "C" fn fixed_print_places_rows(
     print_places_rows(bits, printing, rows, size, codes, refused)
 }
 
-/// The orders of the values of the bits of rows: `fixed_compare_rows` of the header.
+/// Compares the values of the bits of rows: `fixed_compare_rows` of the header.
 #[unsafe(no_mangle)]
 pub extern "C" fn fixed_compare_rows(
     a: &[i64],
@@ -550,7 +550,7 @@ pub extern "C" fn fixed_compare_rows(
     compare_rows(a, a_format, b, b_format, orders, codes, refused)
 }
 
-/// Bits in a style: `fixed_print_styled` of the header.
+/// Prints bits in a style: `fixed_print_styled` of the header.
 #[unsafe(no_mangle)]
 pub extern "C" fn fixed_print_styled(
     bits: i64,
@@ -567,7 +567,7 @@ pub extern "C" fn fixed_print_styled(
     print_styled(bits, format, style, out, len)
 }
 
-/// How many bytes the numeral at the beginning of a text takes: `fixed_scan_text` of the header.
+/// Counts the bytes of the numeral at the start of a text: `fixed_scan_text` of the header.
 #[unsafe(no_mangle)]
 pub extern "C" fn fixed_scan_text(text: &[u8], radix: u32, count: &mut usize) -> u32
     ensures { EndsWith (IsLeadingIn text.now radix) (ScanIsRefused text.now radix) count.old count.new result }
@@ -575,7 +575,7 @@ pub extern "C" fn fixed_scan_text(text: &[u8], radix: u32, count: &mut usize) ->
     hand_over(leading(given_text(text), radix), count)
 }
 
-/// The layout of what the header declares: `fixed_abi` of the header.
+/// Returns the number of the binary interface that the header declares: `fixed_abi` of the header.
 #[unsafe(no_mangle)]
 pub extern "C" fn fixed_abi() -> u32
     ensures { result ≡ 1 }
@@ -583,7 +583,7 @@ pub extern "C" fn fixed_abi() -> u32
     1
 }
 
-/// The version of the library, 1.1.0: `fixed_version` of the header.
+/// Returns the version of the library, 1.1.0: `fixed_version` of the header.
 #[unsafe(no_mangle)]
 pub extern "C" fn fixed_version() -> u32
     ensures { result ≡ 10100 }

@@ -1,4 +1,4 @@
-//! Floats of rows, read as the single calls read them, and the doubles of rows of bits.
+//! Rows of floats, read as the single calls read them, and the doubles of rows of bits.
 
 ghost use Rattle.std.specs.Prelude.{◌↔◌, ◌<◌, ℕ, IsTrue, length};
 ghost use Rattle.fixed_c.specs.Floats.{DoubleRow, HaveDoubles, HaveFloats, ReadsFloatRow};
@@ -6,16 +6,19 @@ ghost use Rattle.fixed_c.specs.Inner.Floats.{ReadsFloatAsked};
 ghost use Rattle.fixed_c.specs.Items.{AreItems, ItemsEnd};
 ghost use Rattle.fixed_c.specs.Numbers.{format_of};
 ghost use Rattle.fixed_c.specs.Rows.{AreRows, RowsEnd};
+ghost use Rattle.fixed_float.specs.Kept.{IsGreatestKept};
 ghost use Rattle.fixed_float.specs.declared.layout.FloatLayout.TheVariants.{Binary32, Binary64};
 
 use crate::arguments::FixedFormat;
 use crate::exports::fixed_double_of_bits;
 use crate::floats::{FloatAsked, float_asked_of, read_double, read_float};
+use crate::kept_range::{in_range, kept_bits};
 use crate::number::FixedNumber;
 use crate::refusal::{OK, Refusal, hand_over};
 use crate::rows::{NO_NUMBER, bits_at, refuse_each, tally};
+use fixed_float::{greatest_kept, short_binary32, short_binary64};
 
-/// How the floats of rows are read, by the codes of C.
+/// How the floats of rows are read, in the codes of C.
 #[derive(Clone, Copy)]
 pub struct FloatReading {
     pub format: FixedFormat,
@@ -23,25 +26,30 @@ pub struct FloatReading {
     pub mode: u32,
 }
 
-/// The single reading of a double.
+/// Reads double `i` as the single call does. Most are short and in range.
 #[inline(always)]
-fn double_row(floats: &[u64], i: usize, asked: &FloatAsked) -> (FixedNumber, u32)
-    requires { i < length floats.now }
+fn double_row(floats: &[u64], i: usize, asked: &FloatAsked, greatest: u64) -> (FixedNumber, u32)
+    requires index { i < length floats.now }
+    requires greatest { IsGreatestKept asked.now.format greatest }
     ensures { ReadsFloatAsked Binary64 floats.now asked.now i result.0 result.1 }
 {
+    let short = short_binary64(floats[i], asked.format, asked.mode);
+    if let Some(bits) = kept_bits(short, asked.format, greatest) {
+        return (in_range(bits), OK);
+    }
     let mut number = NO_NUMBER;
     let code = hand_over(read_double(floats[i], asked), &mut number);
     (number, code)
 }
 
-/// Whether there are as many doubles as numbers and codes.
+/// Whether there are equally many doubles, numbers and codes.
 fn have_doubles(floats: &[u64], out: &[FixedNumber], codes: &[u32]) -> bool
     ensures { IsTrue result ↔ HaveFloats floats.now out.now codes.now }
 {
     floats.len() == codes.len() && out.len() == codes.len()
 }
 
-/// Reads each double as it is asked for. Returns how many are refused.
+/// Reads each double with tested settings. Returns the number of refused doubles.
 fn asked_doubles(
     floats: &[u64],
     asked: &FloatAsked,
@@ -51,9 +59,10 @@ fn asked_doubles(
     requires { HaveFloats floats.now out.old codes.old }
     ensures { AreRows (ReadsFloatAsked Binary64 floats.now asked.now) out.new codes.new result }
 {
+    let greatest = greatest_kept(asked.format);
     let mut refused = 0;
     for i in 0..codes.len() {
-        let (number, code) = double_row(floats, i, asked);
+        let (number, code) = double_row(floats, i, asked, greatest);
         out[i] = number;
         codes[i] = code;
         refused += tally(code);
@@ -61,7 +70,7 @@ fn asked_doubles(
     refused
 }
 
-/// Reads each double. Returns how many are refused. What is asked is tested once.
+/// Reads each double. Returns the number of refused doubles. The settings are tested once.
 fn each_double(
     floats: &[u64],
     reading: FloatReading,
@@ -78,7 +87,7 @@ fn each_double(
     }
 }
 
-/// Reads doubles if the sizes are those of the rows.
+/// Reads doubles if the lengths match.
 pub fn read_doubles(
     floats: &[u64],
     reading: FloatReading,
@@ -99,25 +108,30 @@ pub fn read_doubles(
     }
 }
 
-/// The single reading of a float of single precision.
+/// Reads single-precision float `i` as the single call does. Most are short and in range.
 #[inline(always)]
-fn float_row(floats: &[u32], i: usize, asked: &FloatAsked) -> (FixedNumber, u32)
-    requires { i < length floats.now }
+fn float_row(floats: &[u32], i: usize, asked: &FloatAsked, greatest: u64) -> (FixedNumber, u32)
+    requires index { i < length floats.now }
+    requires greatest { IsGreatestKept asked.now.format greatest }
     ensures { ReadsFloatAsked Binary32 floats.now asked.now i result.0 result.1 }
 {
+    let short = short_binary32(floats[i], asked.format, asked.mode);
+    if let Some(bits) = kept_bits(short, asked.format, greatest) {
+        return (in_range(bits), OK);
+    }
     let mut number = NO_NUMBER;
     let code = hand_over(read_float(floats[i], asked), &mut number);
     (number, code)
 }
 
-/// Whether there are as many floats as numbers and codes.
+/// Whether there are equally many floats, numbers and codes.
 fn have_floats(floats: &[u32], out: &[FixedNumber], codes: &[u32]) -> bool
     ensures { IsTrue result ↔ HaveFloats floats.now out.now codes.now }
 {
     floats.len() == codes.len() && out.len() == codes.len()
 }
 
-/// Reads each float as it is asked for. Returns how many are refused.
+/// Reads each float with tested settings. Returns the number of refused floats.
 fn asked_floats(
     floats: &[u32],
     asked: &FloatAsked,
@@ -127,9 +141,10 @@ fn asked_floats(
     requires { HaveFloats floats.now out.old codes.old }
     ensures { AreRows (ReadsFloatAsked Binary32 floats.now asked.now) out.new codes.new result }
 {
+    let greatest = greatest_kept(asked.format);
     let mut refused = 0;
     for i in 0..codes.len() {
-        let (number, code) = float_row(floats, i, asked);
+        let (number, code) = float_row(floats, i, asked, greatest);
         out[i] = number;
         codes[i] = code;
         refused += tally(code);
@@ -137,7 +152,7 @@ fn asked_floats(
     refused
 }
 
-/// Reads each float. Returns how many are refused. What is asked is tested once.
+/// Reads each float. Returns the number of refused floats. The settings are tested once.
 fn each_float(
     floats: &[u32],
     reading: FloatReading,
@@ -154,7 +169,7 @@ fn each_float(
     }
 }
 
-/// Reads floats if the sizes are those of the rows.
+/// Reads floats if the lengths match.
 pub fn read_floats(
     floats: &[u32],
     reading: FloatReading,
@@ -175,7 +190,7 @@ pub fn read_floats(
     }
 }
 
-/// The single call for the double of a row's bits.
+/// Returns the double of a row's bits and the code, by the single call.
 fn double_of_row(bits: &[i64], i: usize, format: FixedFormat) -> (u64, u32)
     requires { i < length bits.now }
     ensures { DoubleRow bits.now (format_of format.is_signed format.width format.frac) i result.0 result.1 }
@@ -186,14 +201,14 @@ fn double_of_row(bits: &[i64], i: usize, format: FixedFormat) -> (u64, u32)
     (double, code)
 }
 
-/// Whether there are as many bits as doubles and codes.
+/// Whether there are equally many bits, doubles and codes.
 fn have_room(bits: &[i64], out: &[u64], codes: &[u32]) -> bool
     ensures { IsTrue result ↔ HaveDoubles bits.now out.now codes.now }
 {
     bits.len() == codes.len() && out.len() == codes.len()
 }
 
-/// The double of each row's bits. Returns how many are refused.
+/// Writes the double of each row's bits. Returns the number of refused rows.
 fn each_double_of(bits: &[i64], format: FixedFormat, out: &mut [u64], codes: &mut [u32]) -> usize
     requires { HaveDoubles bits.now out.old codes.old }
     ensures { AreItems ℕ (DoubleRow bits.now (format_of format.is_signed format.width format.frac)) out.new codes.new
@@ -209,7 +224,7 @@ fn each_double_of(bits: &[i64], format: FixedFormat, out: &mut [u64], codes: &mu
     refused
 }
 
-/// The doubles of bits if the sizes are those of the rows.
+/// Writes the doubles of bits if the lengths match.
 pub fn doubles_of(
     bits: &[i64],
     format: FixedFormat,

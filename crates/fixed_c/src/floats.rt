@@ -1,4 +1,4 @@
-//! Floats read into a format, and the doubles of bits, before they are handed over.
+//! Reading floats into a format, and finding the doubles of bits. The results are handed over elsewhere.
 
 ghost use Rattle.std.specs.Prelude.{◌≡◌, ◌↔◌, ℕ, IsOk, IfOk, MatchResult};
 ghost use Rattle.fixed_c.specs.Convert.{PrintIsRefused};
@@ -26,7 +26,7 @@ pub struct FloatAsked {
     pub mode: ReadMode,
 }
 
-/// What the codes of C ask for.
+/// Returns the settings that the codes of C name.
 pub fn float_asked_of(format: FixedFormat, policy: u32, mode: u32) -> Result<FloatAsked, Refusal>
     ensures { MatchResult result
         (λ a. AreFloatNamed (format_of format.is_signed format.width format.frac) policy mode a)
@@ -42,7 +42,7 @@ pub fn float_asked_of(format: FixedFormat, policy: u32, mode: u32) -> Result<Flo
     })
 }
 
-/// What was read of a float, brought into the format that it was read into.
+/// Brings the number read from a float into its format.
 #[inline(always)]
 fn brought(
     found: Result<ReadNumber, NotFinite>,
@@ -64,7 +64,7 @@ fn brought(
     }
 }
 
-/// The bits of a double, read as they are asked for.
+/// Reads the bits of a double with tested settings.
 #[inline(always)]
 pub fn read_double(bits: u64, asked: &FloatAsked) -> Result<FixedNumber, Refusal>
     ensures { MatchResult result (IsFloatReadAsAsked Binary64 bits asked.now)
@@ -77,7 +77,7 @@ pub fn read_double(bits: u64, asked: &FloatAsked) -> Result<FixedNumber, Refusal
     )
 }
 
-/// The bits of a float of single precision, read as they are asked for.
+/// Reads the bits of a single-precision float with tested settings.
 #[inline(always)]
 pub fn read_float(bits: u32, asked: &FloatAsked) -> Result<FixedNumber, Refusal>
     ensures { MatchResult result (IsFloatReadAsAsked Binary32 bits asked.now)
@@ -90,7 +90,7 @@ pub fn read_float(bits: u32, asked: &FloatAsked) -> Result<FixedNumber, Refusal>
     )
 }
 
-/// The bits of a double, read into a format.
+/// Reads the bits of a double into a format.
 pub fn double_read(
     bits: u64,
     format: FixedFormat,
@@ -107,7 +107,7 @@ pub fn double_read(
     }
 }
 
-/// The bits of the double nearest to the value of bits of a format.
+/// Returns the bits of the double nearest to the value of bits of a format.
 pub fn double_of(bits: i64, format: FixedFormat) -> Result<u64, Refusal>
     ensures { MatchResult result
         (IsDoubleOf (format_of format.is_signed format.width format.frac) bits)

@@ -1,4 +1,5 @@
-//! Laws: what C gave determines what it has after a call. Each is the contract of a function that does nothing.
+//! Laws: the arguments from C determine every result of a call. Each law is the contract of a function that does
+//! nothing.
 
 ghost use Rattle.fixed_c.specs.Laws.{
   AnswerEndsOnce,
@@ -34,12 +35,12 @@ use fixed_respell::laws::{
 };
 use fixed_write::laws::rounded_text_is_computed;
 
-/// A reading has one end.
+/// A reading has one result.
 pub fn read_ends_once()
     ensures { ReadEndsOnce }
 {}
 
-/// A reading through two formats has one end.
+/// A reading through two formats has one result.
 pub fn respell_ends_once()
     ensures { RespellEndsOnce }
 {
@@ -48,104 +49,104 @@ pub fn respell_ends_once()
     refusal_is_the_one();
 }
 
-/// A call that encloses has one end.
+/// An enclosure has one result.
 pub fn enclose_ends_once()
     ensures { EncloseEndsOnce }
 {
     pair_is_the_one();
 }
 
-/// A conversion has one end.
+/// A conversion has one result.
 pub fn convert_ends_once()
     ensures { ConvertEndsOnce }
 {}
 
-/// A comparison has one end.
+/// A comparison has one result.
 pub fn compare_ends_once()
     ensures { CompareEndsOnce }
 {}
 
-/// A call that prints bits has one end.
+/// Printing bits has one result.
 pub fn print_ends_once()
     ensures { PrintEndsOnce }
 {}
 
-/// A call for a message has one end.
+/// A call for a message has one result.
 pub fn message_ends_once()
     ensures { MessageEndsOnce }
 {}
 
-/// A call that answers a line has one end.
+/// Answering a line has one result.
 pub fn answer_ends_once()
     ensures { AnswerEndsOnce }
 {
     answer_is_the_one();
 }
 
-/// A call that prints to places has one end.
+/// Printing to decimal places has one result.
 pub fn places_ends_once()
     ensures { PlacesEndsOnce }
 {
     rounded_text_is_computed();
 }
 
-/// A rounding to a whole number has one end.
+/// Rounding to a whole number has one result.
 pub fn round_ends_once()
     ensures { RoundEndsOnce }
 {}
 
-/// A conversion in a mode has one end.
+/// A conversion in a mode has one result.
 pub fn convert_in_ends_once()
     ensures { ConvertInEndsOnce }
 {
     moved_in_is_the_one();
 }
 
-/// A reading of a literal has one end.
+/// Reading a literal has one result.
 pub fn literal_ends_once()
     ensures { LiteralEndsOnce }
 {}
 
-/// A call that prints in a style has one end.
+/// Printing in a style has one result.
 pub fn styled_ends_once()
     ensures { StyledEndsOnce }
 {
     styled_text_is_the_one();
 }
 
-/// A call that finds the numeral at the beginning of a text has one end.
+/// Finding the numeral at the start of a text has one result.
 pub fn scan_ends_once()
     ensures { ScanEndsOnce }
 {
     leading_is_the_one();
 }
 
-/// A reading of rows has one end.
+/// Reading rows has one result.
 pub fn read_rows_end_once()
     ensures { ReadRowsEndOnce }
 {}
 
-/// A conversion of rows has one end.
+/// Converting rows has one result.
 pub fn convert_rows_end_once()
     ensures { ConvertRowsEndOnce }
 {}
 
-/// A call that prints rows has one end.
+/// Printing rows has one result.
 pub fn print_rows_end_once()
     ensures { PrintRowsEndOnce }
 {}
 
-/// A buffer takes a text in one way.
+/// Writing a text to a buffer has one result.
 pub fn puts_once()
     ensures { PutsOnce }
 {}
 
-/// A call for the format of a word has one end.
+/// Finding the format of a name has one result.
 pub fn word_ends_once()
     ensures { WordEndsOnce }
 {}
 
-/// A call for the word of a format has one end.
+/// Writing the name of a format has one result.
 pub fn format_ends_once()
     ensures { FormatEndsOnce }
 {}

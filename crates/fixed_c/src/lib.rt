@@ -1,8 +1,8 @@
 //! The library for C: the exports that `include/fixed.h` declares.
 //!
-//! C hands a `&[u8]` over as a pointer and a length, and a `&mut` as a pointer. No pointer may be null but that of no
-//! bytes, and none of what a call writes may overlap anything else that it is given. Every other argument is tested: an
-//! export returns 0 and what it was asked for, or the code of the first refusal.
+//! C passes a `&[u8]` as a pointer and a length, and a `&mut` as a pointer. Only the pointer of zero bytes may be null,
+//! and memory that a call writes must not overlap any other argument. Every other argument is tested: an export writes
+//! its result and returns 0, or returns the code of the first refusal.
 #![tactic(auto)]
 
 mod arguments;
@@ -12,6 +12,7 @@ mod decimals;
 mod exports;
 mod float_rows;
 mod floats;
+mod kept_range;
 pub mod laws;
 mod number;
 mod numbers;

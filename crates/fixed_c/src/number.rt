@@ -1,4 +1,4 @@
-//! Bits as C holds them.
+//! Bits in the form for C.
 
 ghost use Rattle.std.specs.Prelude.{◌≡◌, MatchResult, IfOk};
 ghost use Rattle.fixed_bits.specs.Ranges.{IsInRange, IsWide};
@@ -7,13 +7,13 @@ ghost use Rattle.fixed_c.specs.Numbers.{AreBits, AreBitsOf, flag_of, has_bits};
 use crate::refusal::Refusal;
 use fixed_bits::Format;
 
-/// The bits of a number, `fixed_number` of the header. Those of an unsigned format of 64 bits are the same 64 bits.
+/// The bits of a number, `fixed_number` of the header. Bits of an unsigned format of 64 bits are the same 64 bits.
 #[repr(C)]
 #[derive(Clone, Copy)]
 pub struct FixedNumber {
     /// The bits.
     pub bits: i64,
-    /// 1 where a number on the way was out of its format, else 0.
+    /// 1 if a number on the way was out of its format's range, else 0.
     pub overflowed: u32,
 }
 
@@ -21,13 +21,13 @@ pub struct FixedNumber {
 #[repr(C)]
 #[derive(Clone, Copy)]
 pub struct FixedEnclosure {
-    /// Those of the greatest number that is not above the value.
+    /// The bits of the greatest number that is not above the value.
     pub lo: i64,
-    /// Those of the least number that is not below it.
+    /// The bits of the least number that is not below the value.
     pub hi: i64,
 }
 
-/// The bits of a number that its format holds, as C has them.
+/// Returns the bits, in the form for C, of a number in its format's range.
 pub fn bits_for_c(format: Format, number: i128) -> i64
     requires { IsInRange format.signed format.width number }
     ensures { has_bits format.signed result number }
@@ -39,7 +39,7 @@ pub fn bits_for_c(format: Format, number: i128) -> i64
     }
 }
 
-/// The number that bits of C are in a format. The refusal where the format does not hold it is `bad`.
+/// Returns the number that bits from C represent in a format, or the refusal `bad` if it is out of range.
 pub fn number_in(bits: i64, format: Format, bad: Refusal) -> Result<i128, Refusal>
     ensures wide { IfOk result IsWide }
     ensures number { MatchResult result (λ n. AreBitsOf format bits n)
@@ -57,14 +57,14 @@ pub fn number_in(bits: i64, format: Format, bad: Refusal) -> Result<i128, Refusa
     }
 }
 
-/// 1 for true and 0 for false.
+/// Returns 1 for true and 0 for false.
 pub fn flag(is: bool) -> u32
     ensures { result ≡ flag_of is }
 {
     if is { 1 } else { 0 }
 }
 
-/// A number that its format holds and a flag, as C has them.
+/// Returns a number in its format's range, and a flag, in the form for C.
 pub fn number_for_c(format: Format, number: i128, overflowed: bool) -> FixedNumber
     requires { IsInRange format.signed format.width number }
     ensures bits { has_bits format.signed result.bits number }

@@ -1,4 +1,4 @@
-//! The calls that give numbers, before they are handed over.
+//! The calls that return numbers. The results are handed over elsewhere.
 
 ghost use Rattle.std.specs.Prelude.{◌≡◌, MatchResult};
 ghost use Rattle.fixed_c.specs.Arguments.{Names};
@@ -22,7 +22,7 @@ use fixed_read::read_literal;
 use fixed_respell::Bits;
 use std::cmp::Ordering;
 
-/// A text read into a format.
+/// Reads a text into a format.
 pub fn read(
     text: &[u8],
     radix: u32,
@@ -41,7 +41,7 @@ pub fn read(
     }
 }
 
-/// Bits of one format, rounded down to another.
+/// Converts bits to another format, rounding down.
 pub fn convert(
     bits: i64,
     source: FixedFormat,
@@ -64,7 +64,7 @@ pub fn convert(
     }
 }
 
-/// Bits of one format, moved in a mode to another.
+/// Converts bits to another format in a mode.
 pub fn convert_in(
     bits: i64,
     source: FixedFormat,
@@ -89,7 +89,7 @@ pub fn convert_in(
     }
 }
 
-/// -1, 0 or 1.
+/// Returns -1, 0 or 1.
 fn order_of(order: Ordering) -> i32
     ensures { result ≡ order_code order }
 {
@@ -100,7 +100,7 @@ fn order_of(order: Ordering) -> i32
     }
 }
 
-/// The order of the values of bits of two formats.
+/// Compares the values of bits of two formats.
 pub fn order_by_value(
     a: i64,
     a_format: FixedFormat,
@@ -120,7 +120,7 @@ pub fn order_by_value(
     Ok(order_of(compare(left, f.frac(), right, g.frac())))
 }
 
-/// The two numbers of a format between which the value of a text lies.
+/// Returns the two numbers of a format that enclose the value of a text.
 pub fn ends_around(text: &[u8], radix: u32, format: FixedFormat) -> Result<FixedEnclosure, Refusal>
     ensures { MatchResult result
         (λ ends. IsEnclosedBy text.now radix (format_of format.is_signed format.width format.frac) ends.lo ends.hi)
@@ -137,7 +137,7 @@ pub fn ends_around(text: &[u8], radix: u32, format: FixedFormat) -> Result<Fixed
     }
 }
 
-/// Bits by their sign rule, as C has them.
+/// Returns signed or unsigned bits in the form for C.
 fn given_bits(bits: Bits) -> i64
     ensures { has_bits (is_signed bits) result (number_of bits) }
 {
@@ -147,7 +147,7 @@ fn given_bits(bits: Bits) -> i64
     }
 }
 
-/// A text read into one format and rounded down to another.
+/// Reads a text into one format and rounds it down to another.
 pub fn respelled(
     text: &[u8],
     radix: u32,
@@ -176,7 +176,7 @@ pub fn respelled(
     }
 }
 
-/// A literal read into a format.
+/// Reads a literal into a format.
 pub fn literal(text: &[u8], format: FixedFormat, policy: u32) -> Result<FixedNumber, Refusal>
     ensures { MatchResult result
         (λ n. IsLiteralReadAs text.now (format_of format.is_signed format.width format.frac) policy n.bits n.overflowed)

@@ -1,4 +1,4 @@
-//! The bits of rows, compared as the single call compares them.
+//! Compares the bits of rows as the single call does.
 
 ghost use Rattle.std.specs.Prelude.{◌↔◌, ◌<◌, ℤ, IsTrue, length};
 ghost use Rattle.fixed_c.specs.Items.{AreItems, ComparesRow, HavePairs, ItemsEnd};
@@ -9,7 +9,7 @@ use crate::exports::fixed_compare_bits;
 use crate::refusal::{OK, Refusal};
 use crate::rows::{bits_at, tally};
 
-/// The single comparison of the bits of a row.
+/// Compares the bits of row `i` by the single call.
 fn order_row(a: &[i64], f: FixedFormat, b: &[i64], g: FixedFormat, i: usize) -> (i32, u32)
     requires left { i < length a.now }
     requires right { i < length b.now }
@@ -23,14 +23,14 @@ fn order_row(a: &[i64], f: FixedFormat, b: &[i64], g: FixedFormat, i: usize) -> 
     (order, code)
 }
 
-/// Whether there are as many bits on each side as orders and codes.
+/// Whether there are equally many bits on each side, orders and codes.
 fn have_pairs(a: &[i64], b: &[i64], orders: &[i32], codes: &[u32]) -> bool
     ensures { IsTrue result ↔ HavePairs a.now b.now orders.now codes.now }
 {
     a.len() == codes.len() && b.len() == codes.len() && orders.len() == codes.len()
 }
 
-/// Compares the bits of each row. Returns how many are refused.
+/// Compares the bits of each row. Returns the number of refused rows.
 fn each_order(
     a: &[i64],
     f: FixedFormat,
@@ -53,7 +53,7 @@ fn each_order(
     refused
 }
 
-/// Compares the bits of rows if the sizes are those of the rows.
+/// Compares the bits of rows if the lengths match.
 pub fn compare_rows(
     a: &[i64],
     f: FixedFormat,

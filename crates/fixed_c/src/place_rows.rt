@@ -1,4 +1,4 @@
-//! The bits of rows to a count of decimal places, put as the single call prints them.
+//! Prints the bits of rows to decimal places as the single call does.
 
 ghost use Rattle.std.specs.Prelude.{◌≡◌, ◌≢◌, ◌+◌, ◌*◌, ◌≤◌, ℕ, length};
 ghost use Rattle.fixed_c.specs.Items.{ArePlaces, PlacesEnd, PrintsPlaces};
@@ -10,7 +10,7 @@ use crate::refusal::{OK, Refusal};
 use crate::rows::{bits_at, have_texts, put_row, tally};
 use crate::texts::rounded_to;
 
-/// How the bits of rows are printed, by the codes of C.
+/// How the bits of rows are printed, in the codes of C.
 #[derive(Clone, Copy)]
 pub struct PlacesPrinting {
     pub format: FixedFormat,
@@ -18,7 +18,7 @@ pub struct PlacesPrinting {
     pub mode: u32,
 }
 
-/// Prints bits to places into a row.
+/// Prints bits into a row to `printing.places` decimal places.
 fn places_row(bits: i64, printing: PlacesPrinting, row: &mut [u8]) -> u32
     ensures { PrintsPlaces (format_of printing.format.is_signed printing.format.width printing.format.frac)
         printing.places printing.mode bits row.old row.new result }
@@ -29,7 +29,7 @@ fn places_row(bits: i64, printing: PlacesPrinting, row: &mut [u8]) -> u32
     }
 }
 
-/// Prints bits to places into row `i`, and leaves every other row as it was.
+/// Prints bits into row `i` to `printing.places` decimal places. Every other row is unchanged.
 fn places_at(bits: i64, printing: PlacesPrinting, rows: &mut [u8], size: usize, i: usize) -> u32
     requires { i * size + size ≤ length rows.old }
     ensures printed { PrintsPlaces (format_of printing.format.is_signed printing.format.width printing.format.frac)
@@ -40,7 +40,7 @@ fn places_at(bits: i64, printing: PlacesPrinting, rows: &mut [u8], size: usize, 
     places_row(bits, printing, &mut rows[start..start + size])
 }
 
-/// Prints the bits of each row to places. Returns how many are refused.
+/// Prints the bits of each row to `printing.places` decimal places. Returns the number of refused rows.
 fn each_places(
     bits: &[i64],
     printing: PlacesPrinting,
@@ -62,7 +62,7 @@ fn each_places(
     refused
 }
 
-/// Prints the bits of rows to places if the sizes are those of the rows.
+/// Prints the bits of rows to `printing.places` decimal places if the lengths match.
 pub fn print_places_rows(
     bits: &[i64],
     printing: PlacesPrinting,

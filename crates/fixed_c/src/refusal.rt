@@ -1,4 +1,4 @@
-//! Why a call is refused, and the codes that say so.
+//! The reasons why a call is refused, and their codes.
 
 ghost use Rattle.std.specs.Prelude.{◌≡◌, ◌⊎◌, ◌<◌, ◌≤◌, length, MatchOption};
 ghost use Rattle.fixed_c.specs.Codes.{IsMessage, kind_code, refusal_code, refusal_message};
@@ -6,23 +6,23 @@ ghost use Rattle.fixed_c.specs.Outcome.{HandsOver};
 
 use fixed_numeral::{ParseErrorKind, ParseFixedError};
 
-/// The code of a call that did what it was asked for.
+/// The code of a call that succeeded.
 pub const OK: u32 = 0;
 
 /// Why a call is refused.
 #[derive(Clone, Copy, Debug, PartialEq, Eq)]
 pub enum Refusal {
-    /// The text is no numeral, or a format does not hold its number.
+    /// The text is not a numeral, or its number is out of a format's range.
     Numeral(ParseErrorKind),
-    /// The radix is none of 2, 8, 10 and 16.
+    /// The radix is not 2, 8, 10 or 16.
     BadRadix,
-    /// The only format, or the first of two, is none.
+    /// The only format, or the first of two, is invalid.
     BadFormat,
-    /// The second format is none.
+    /// The second format is invalid.
     BadTarget,
-    /// The policy is none of 0 to 2.
+    /// The policy is not 0 to 3.
     BadPolicy,
-    /// The mode is none of 0 to 3.
+    /// The mode is not 0 to 8.
     BadMode,
     /// The only bits, or the first of two, are out of the range of their format.
     BadBits,
@@ -30,27 +30,27 @@ pub enum Refusal {
     NoRoom,
     /// The second bits are out of the range of their format.
     BadOtherBits,
-    /// There are more than 64 places, or in a style more than 65,535.
+    /// There are more than 64 places, in a decimal format more than 18, or in a style more than 65,535.
     BadPlaces,
-    /// The rounding is none of 0 to 4.
+    /// The rounding is not 0 to 4.
     BadRounding,
-    /// The word is that of no format.
+    /// The word does not name a format.
     BadWord,
-    /// The sizes that are given are not those of the rows.
+    /// The given sizes are not those of the rows.
     BadRows,
-    /// The notation is none of 0 to 6.
+    /// The notation is not 0 to 6.
     BadNotation,
     /// The width is more than 65,535 characters.
     BadWidth,
-    /// The fill is no Unicode scalar value.
+    /// The fill is not a Unicode scalar value.
     BadFill,
-    /// The alignment is none of 0 to 2.
+    /// The alignment is not 0 to 2.
     BadAlign,
     /// The float is an infinity or a NaN.
     NotFinite,
 }
 
-/// The code of a kind, 1 to 10.
+/// Returns the code of a kind, 1 to 10.
 fn kind_code(kind: ParseErrorKind) -> u32
     ensures { result ≡ kind_code kind }
 {
@@ -69,7 +69,7 @@ fn kind_code(kind: ParseErrorKind) -> u32
 }
 
 impl Refusal {
-    /// The code of the refusal, 1 to 27.
+    /// Returns the code of the refusal, 1 to 27.
     pub fn code(self) -> u32
         ensures { result ≡ refusal_code self }
     {
@@ -95,7 +95,7 @@ impl Refusal {
         }
     }
 
-    /// The message of the refusal, at most 47 bytes.
+    /// Returns the message of the refusal, at most 47 bytes.
     fn message(self) -> &'static str
         ensures message { result.now ≡ refusal_message self }
         ensures short { length result.now ≤ 47 }
@@ -123,7 +123,7 @@ impl Refusal {
     }
 }
 
-/// The refusal of a code. None where it is that of none.
+/// Returns the refusal with a code, or `None` if there is none.
 fn refusal_of(code: u32) -> Option<Refusal>
     ensures { MatchOption result ((code ≡ 0) ⊎ (27 < code)) (λ refusal. code ≡ refusal_code refusal) }
 {
@@ -159,7 +159,7 @@ fn refusal_of(code: u32) -> Option<Refusal>
     }
 }
 
-/// The message of a code, at most 47 bytes.
+/// Returns the message of a code, at most 47 bytes.
 pub fn message_of(code: u32) -> &'static str
     ensures message { IsMessage code result.now }
     ensures short { length result.now ≤ 47 }
@@ -171,7 +171,7 @@ pub fn message_of(code: u32) -> &'static str
     }
 }
 
-/// Hands an answer over to C and returns 0, or returns the code of a refusal and leaves what C has as it was.
+/// Writes a result to `out` and returns 0, or returns the code of a refusal and leaves `out` unchanged.
 pub fn hand_over<T: Copy>(answer: Result<T, Refusal>, out: &mut T) -> u32
     ensures { HandsOver answer out.old out.new result }
 {

@@ -23,7 +23,7 @@ pub enum WholeRounding {
     ToZero,
 }
 
-/// The rounding of a code.
+/// Returns the rounding of a code.
 fn rounding_of(code: u32) -> Result<WholeRounding, Refusal>
     ensures { MatchResult result (λ r. code ≡ rounding_code r)
         (λ refusal. (¬ NamesRounding code) × (refusal ≡ BadRounding)) }
@@ -38,7 +38,7 @@ fn rounding_of(code: u32) -> Result<WholeRounding, Refusal>
     }
 }
 
-/// The bits of the whole number that a number is rounded to.
+/// Rounds a number to a whole number and returns its bits.
 fn rounded(number: i128, frac: u32, rounding: WholeRounding) -> i128
     requires wide { IsWide number }
     requires frac { frac ≤ 64 }
@@ -50,7 +50,7 @@ fn rounded(number: i128, frac: u32, rounding: WholeRounding) -> i128
     }
 }
 
-/// A number, brought into a format by a policy.
+/// Brings a number into a format by a policy.
 fn brought(format: Format, policy: Policy, number: i128) -> Result<FixedNumber, Refusal>
     ensures { MatchResult result
         (λ n. IsBrought format policy number n.bits n.overflowed)
@@ -63,7 +63,7 @@ fn brought(format: Format, policy: Policy, number: i128) -> Result<FixedNumber, 
     }
 }
 
-/// Bits rounded to a whole number.
+/// Rounds bits to a whole number.
 pub fn round(
     bits: i64,
     format: FixedFormat,

@@ -1,4 +1,4 @@
-//! The single calls for rows, one after another.
+//! Rows: the single call for each row, one after another.
 
 ghost use Rattle.std.specs.Prelude.{◌≡◌, ◌≢◌, ℕ, ◌<◌, ◌≤◌, ◌+◌, ◌*◌, ◌==◌, if◌then◌else◌, pos, length, slice_index_or};
 ghost use Rattle.std.specs.Prelude.{take, drop, IsTrue, ◌↔◌};
@@ -14,13 +14,13 @@ use crate::number::FixedNumber;
 use crate::refusal::{OK, Refusal, hand_over};
 use crate::texts::shortest_of;
 
-/// What each number is before its row is read.
+/// The number written for a refused row.
 pub const NO_NUMBER: FixedNumber = FixedNumber {
     bits: 0,
     overflowed: 0,
 };
 
-/// How the numerals of rows are read, by the codes of C.
+/// How the numerals of rows are read, in the codes of C.
 #[derive(Clone, Copy)]
 pub struct Reading {
     pub radix: u32,
@@ -29,7 +29,7 @@ pub struct Reading {
     pub mode: u32,
 }
 
-/// How the bits of rows are converted, by the codes of C.
+/// How the bits of rows are converted, in the codes of C.
 #[derive(Clone, Copy)]
 pub struct Conversion {
     pub source: FixedFormat,
@@ -38,7 +38,7 @@ pub struct Conversion {
     pub mode: u32,
 }
 
-/// The bytes before the first zero byte.
+/// Returns the bytes before the first zero byte.
 pub fn before_zero(row: &[u8]) -> &[u8]
     ensures { result.now ≡ before_zero row.now }
 {
@@ -50,7 +50,7 @@ pub fn before_zero(row: &[u8]) -> &[u8]
     row
 }
 
-/// The place after the text of a row, which begins at `start`.
+/// Returns the index after the text of the row that begins at `start`.
 fn end_of_text(rows: &[u8], start: usize, size: usize) -> usize
     requires { start + size ≤ length rows.now }
     ensures end { result ≡ start + length (before_zero (take size (drop start rows.now))) }
@@ -60,7 +60,7 @@ fn end_of_text(rows: &[u8], start: usize, size: usize) -> usize
     start + before_zero(&rows[start..start + size]).len()
 }
 
-/// 1 for a code that is not 0.
+/// Returns 1 if a code is not 0, else 0.
 pub fn tally(code: u32) -> usize
     ensures value { result ≡ (if code == 0 then 0 else 1) }
     ensures most { result ≤ 1 }
@@ -68,7 +68,7 @@ pub fn tally(code: u32) -> usize
     if code == OK { 0 } else { 1 }
 }
 
-/// The single reading of a row, whose text is read where it is: most rows have 16 bytes before them.
+/// Reads row `i` as the single call does. The text is read in place, since most rows have 16 bytes before them.
 fn read_row(rows: &[u8], size: usize, i: usize, asked: &Asked) -> (FixedNumber, u32)
     requires { i * size + size ≤ length rows.now }
     ensures { ReadsAskedRow rows.now size asked.now i result.0 result.1 }
@@ -80,7 +80,7 @@ fn read_row(rows: &[u8], size: usize, i: usize, asked: &Asked) -> (FixedNumber, 
     (number, code)
 }
 
-/// The bits of a row.
+/// Returns the bits of a row.
 pub fn bits_at(bits: &[i64], i: usize) -> i64
     requires { i < length bits.now }
     ensures { result ≡ slice_index_or bits.now i (pos 0) }
@@ -88,7 +88,7 @@ pub fn bits_at(bits: &[i64], i: usize) -> i64
     bits[i]
 }
 
-/// The single conversion of a row's bits.
+/// Converts the bits of row `i` by the single call.
 fn convert_row(bits: &[i64], i: usize, conversion: Conversion) -> (FixedNumber, u32)
     requires { i < length bits.now }
     ensures { ConvertsRow bits.now (format_of conversion.source.is_signed conversion.source.width
@@ -108,21 +108,21 @@ fn convert_row(bits: &[i64], i: usize, conversion: Conversion) -> (FixedNumber, 
     (number, code)
 }
 
-/// Whether there are as many rows as numbers and codes.
+/// Whether there are equally many rows, numbers and codes.
 pub fn have_rows(rows: &[u8], size: usize, out: &[FixedNumber], codes: &[u32]) -> bool
     ensures { IsTrue result ↔ HaveRows rows.now size out.now codes.now }
 {
     rows.len() as u128 == size as u128 * codes.len() as u128 && out.len() == codes.len()
 }
 
-/// Whether there are as many bits as numbers and codes.
+/// Whether there are equally many bits, numbers and codes.
 fn have_bits(bits: &[i64], out: &[FixedNumber], codes: &[u32]) -> bool
     ensures { IsTrue result ↔ HaveBits bits.now out.now codes.now }
 {
     bits.len() == codes.len() && out.len() == codes.len()
 }
 
-/// Reads each row as it is asked for, and answers how many are refused.
+/// Reads each row with tested settings. Returns the number of refused rows.
 fn read_asked(
     rows: &[u8],
     size: usize,
@@ -143,7 +143,7 @@ fn read_asked(
     refused
 }
 
-/// Refuses each row, and answers how many there are.
+/// Refuses each row. Returns the number of rows.
 pub fn refuse_each(refusal: Refusal, out: &mut [FixedNumber], codes: &mut [u32]) -> usize
     requires { length out.old ≡ length codes.old }
     ensures { AreRows (RefusesRow refusal) out.new codes.new result }
@@ -158,7 +158,7 @@ pub fn refuse_each(refusal: Refusal, out: &mut [FixedNumber], codes: &mut [u32])
     refused
 }
 
-/// Reads each row, and answers how many are refused. What is asked is tested once.
+/// Reads each row. Returns the number of refused rows. The settings are tested once.
 fn read_each(
     rows: &[u8],
     size: usize,
@@ -176,7 +176,7 @@ fn read_each(
     }
 }
 
-/// Converts the bits of each row, and answers how many are refused.
+/// Converts the bits of each row. Returns the number of refused rows.
 fn convert_each(
     bits: &[i64],
     conversion: Conversion,
@@ -198,7 +198,7 @@ fn convert_each(
     refused
 }
 
-/// Reads rows where the sizes are theirs.
+/// Reads rows if the lengths match.
 pub fn read_rows(
     rows: &[u8],
     size: usize,
@@ -220,7 +220,7 @@ pub fn read_rows(
     }
 }
 
-/// Converts the bits of rows where the sizes are theirs.
+/// Converts the bits of rows if the lengths match.
 pub fn convert_rows(
     bits: &[i64],
     conversion: Conversion,
@@ -242,7 +242,7 @@ pub fn convert_rows(
     }
 }
 
-/// Puts a text into a row, and zero bytes after it.
+/// Writes a text into a row, and zero bytes after it.
 pub fn put_row(text: &[u8], row: &mut [u8]) -> u32
     ensures { PutsRow text.now row.old row.new result }
 {
@@ -266,7 +266,7 @@ fn print_row(bits: i64, format: FixedFormat, row: &mut [u8]) -> u32
     }
 }
 
-/// Prints bits into row `i`, and leaves every other row as it was.
+/// Prints bits into row `i`. Every other row is unchanged.
 fn print_at(bits: i64, format: FixedFormat, rows: &mut [u8], size: usize, i: usize) -> u32
     requires { i * size + size ≤ length rows.old }
     ensures printed { PrintsRow (format_of format.is_signed format.width format.frac) bits (row_at rows.old size i)
@@ -277,14 +277,14 @@ fn print_at(bits: i64, format: FixedFormat, rows: &mut [u8], size: usize, i: usi
     print_row(bits, format, &mut rows[start..start + size])
 }
 
-/// Whether there are as many bits and rows as codes.
+/// Whether there are equally many bits, rows and codes.
 pub fn have_texts(bits: &[i64], rows: &[u8], size: usize, codes: &[u32]) -> bool
     ensures { IsTrue result ↔ HaveTexts bits.now rows.now size codes.now }
 {
     bits.len() == codes.len() && rows.len() as u128 == size as u128 * codes.len() as u128
 }
 
-/// Prints the bits of each row, and answers how many are refused.
+/// Prints the bits of each row. Returns the number of refused rows.
 fn print_each(
     bits: &[i64],
     format: FixedFormat,
@@ -306,7 +306,7 @@ fn print_each(
     refused
 }
 
-/// Prints rows where the sizes are theirs.
+/// Prints rows if the lengths match.
 pub fn print_rows(
     bits: &[i64],
     format: FixedFormat,

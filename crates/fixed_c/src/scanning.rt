@@ -1,4 +1,4 @@
-//! The numeral at the beginning of a text.
+//! The numeral at the start of a text.
 
 ghost use Rattle.std.specs.Prelude.{MatchResult};
 ghost use Rattle.fixed_c.specs.Scan.{IsLeadingIn, ScanIsRefused};
@@ -7,7 +7,7 @@ use crate::arguments::radix_of;
 use crate::refusal::Refusal;
 use crate::uncounted::leading_uncounted;
 
-/// How many bytes the numeral at the beginning of a text takes.
+/// Counts the bytes of the numeral at the start of a text.
 pub fn leading(text: &[u8], radix: u32) -> Result<usize, Refusal>
     ensures { MatchResult result (IsLeadingIn text.now radix) (ScanIsRefused text.now radix) }
 {

@@ -1,4 +1,4 @@
-//! Bits in a style.
+//! Prints bits in a style.
 
 ghost use Rattle.std.specs.Prelude.{◌≡◌, ◌<◌, ◌^◌, MatchResult};
 ghost use Rattle.std.specs.Char.{IsScalar};
@@ -15,32 +15,32 @@ use crate::number::number_in;
 use crate::refusal::{OK, Refusal};
 use fixed_write::{Align, Notation, Style, StyledText, text_in_style};
 
-/// The precision of a style that shows as many places as a number needs.
+/// The precision that shows as many places as a number needs.
 const NO_PRECISION: u32 = u32::MAX;
 
-/// A style as C gives it, `fixed_style` of the header.
+/// A style as C passes it, `fixed_style` of the header.
 #[repr(C)]
 #[derive(Clone, Copy)]
 pub struct FixedStyle {
-    /// What the number is shown in, 0 to 6.
+    /// The notation, 0 to 6.
     pub notation: u32,
-    /// How many digits are after the point, at most 65,535, or 2^32 - 1 for as many as the number needs.
+    /// The number of digits after the point, at most 65,535, or 2^32 - 1 for as many as the number needs.
     pub precision: u32,
     /// The least number of characters, at most 65,535.
     pub width: u32,
-    /// The character that fills the field up to the width, by its Unicode scalar value, or 0 for a blank.
+    /// The Unicode scalar value of the character that fills the field up to the width, or 0 for a blank.
     pub fill: u32,
-    /// Where the text is in the field, 0 to 2.
+    /// The alignment of the text in the field, 0 to 2.
     pub align: u32,
-    /// Whether there is a `+` before a number that is not negative: 0 where not.
+    /// Whether to write `+` before a number that is not negative: 0 if not.
     pub plus: u32,
-    /// Whether there is a prefix `0b`, `0o` or `0x`: 0 where not.
+    /// Whether to write a prefix `0b`, `0o` or `0x`: 0 if not.
     pub prefix: u32,
-    /// Whether zeros after sign and prefix fill the field: 0 where not.
+    /// Whether to fill the field with zeros after sign and prefix: 0 if not.
     pub zero_pad: u32,
 }
 
-/// The notation of a code.
+/// Returns the notation of a code.
 fn notation_of(code: u32) -> Result<Notation, Refusal>
     ensures { MatchResult result
         (λ n. code ≡ notation_code n)
@@ -58,7 +58,7 @@ fn notation_of(code: u32) -> Result<Notation, Refusal>
     }
 }
 
-/// The alignment of a code.
+/// Returns the alignment of a code.
 fn align_of(code: u32) -> Result<Align, Refusal>
     ensures { MatchResult result (λ a. code ≡ align_code a) (λ refusal. (¬ NamesAlign code) × (refusal ≡ BadAlign)) }
 {
@@ -70,7 +70,7 @@ fn align_of(code: u32) -> Result<Align, Refusal>
     }
 }
 
-/// The precision that C gives.
+/// Returns the precision that C passes.
 fn precision_of(code: u32) -> Result<Option<u16>, Refusal>
     ensures { MatchResult result
         (λ p. IsPrecision code p)
@@ -85,7 +85,7 @@ fn precision_of(code: u32) -> Result<Option<u16>, Refusal>
     }
 }
 
-/// The width that C gives.
+/// Returns the width that C passes.
 fn width_of(width: u32) -> Result<u16, Refusal>
     ensures { MatchResult result
         (λ w. (width ≡ w) × (width < 2 ^ 16))
@@ -98,7 +98,7 @@ fn width_of(width: u32) -> Result<u16, Refusal>
     }
 }
 
-/// The character of a Unicode scalar value, and a blank for 0.
+/// Returns the character of a Unicode scalar value, or a blank for 0.
 fn fill_of(code: u32) -> Result<char, Refusal>
     ensures { MatchResult result
         (λ c. (fill_at code ≡ c) × IsScalar code)
@@ -113,7 +113,7 @@ fn fill_of(code: u32) -> Result<char, Refusal>
     }
 }
 
-/// The style that C gives.
+/// Returns the style that C passes.
 fn style_of(given: &FixedStyle) -> Result<Style, Refusal>
     ensures { MatchResult result (NamesStyle given.now) (StyleIsRefused given.now) }
 {
@@ -134,7 +134,7 @@ fn style_of(given: &FixedStyle) -> Result<Style, Refusal>
     })
 }
 
-/// Bits in a style.
+/// Prints bits in a style.
 fn in_style(bits: i64, format: FixedFormat, style: &FixedStyle) -> Result<StyledText, Refusal>
     ensures { MatchResult result
         (IsPrintedIn (format_of format.is_signed format.width format.frac) bits style.now)
@@ -146,7 +146,7 @@ fn in_style(bits: i64, format: FixedFormat, style: &FixedStyle) -> Result<Styled
     Ok(text_in_style(number, format.frac(), &style))
 }
 
-/// Hands over a text and a zero byte where there is room for both, and its length in any case.
+/// Writes a text and a zero byte if there is room for both, and its length in any case.
 fn put_styled(text: &StyledText, out: &mut [u8], len: &mut usize) -> u32
     ensures { PutsText text.now out.old out.new len.new result }
 {
@@ -161,7 +161,7 @@ fn put_styled(text: &StyledText, out: &mut [u8], len: &mut usize) -> u32
     }
 }
 
-/// Hands over bits in a style.
+/// Hands over the text of bits in a style.
 pub fn print_styled(
     bits: i64,
     format: FixedFormat,

@@ -1,4 +1,4 @@
-//! Texts that are handed to a buffer of C.
+//! Texts that are written to a buffer of C.
 
 ghost use Rattle.std.specs.Prelude.{MatchResult};
 ghost use Rattle.fixed_c.specs.Answer.{IsAnswered};
@@ -13,7 +13,7 @@ use crate::uncounted::{answer_uncounted, shortest_uncounted};
 use fixed_write::{ShortText, push_decimal};
 use text_buffer::TextBuffer;
 
-/// Hands over a text and a zero byte where there is room for both, and its length in any case.
+/// Writes a text and a zero byte if there is room for both, and its length in any case.
 pub fn put_text(text: &[u8], out: &mut [u8], len: &mut usize) -> u32
     ensures { PutsText text.now out.old out.new len.new result }
 {
@@ -28,7 +28,7 @@ pub fn put_text(text: &[u8], out: &mut [u8], len: &mut usize) -> u32
     }
 }
 
-/// The shortest decimal that reads back as bits of a format.
+/// Returns the shortest decimal that reads back as bits of a format.
 pub fn shortest_of(bits: i64, format: FixedFormat) -> Result<ShortText, Refusal>
     ensures { MatchResult result
         (IsPrinted (format_of format.is_signed format.width format.frac) bits)
@@ -39,7 +39,7 @@ pub fn shortest_of(bits: i64, format: FixedFormat) -> Result<ShortText, Refusal>
     Ok(shortest_uncounted(number, format.frac()))
 }
 
-/// Hands over the shortest decimal that reads back as bits of a format.
+/// Writes the shortest decimal that reads back as bits of a format.
 pub fn print_bits(bits: i64, format: FixedFormat, out: &mut [u8], len: &mut usize) -> u32
     ensures { TextEnds
         (IsPrinted (format_of format.is_signed format.width format.frac) bits)
@@ -52,7 +52,7 @@ pub fn print_bits(bits: i64, format: FixedFormat, out: &mut [u8], len: &mut usiz
     }
 }
 
-/// Bits to a count of decimal places, rounded in a mode: a text of at most 86 bytes.
+/// Prints bits to `places` decimal places, rounded in a mode: a text of at most 86 bytes.
 pub fn rounded_to(
     bits: i64,
     format: FixedFormat,
@@ -74,7 +74,7 @@ pub fn rounded_to(
     Ok(text)
 }
 
-/// Hands over bits to a count of decimal places, rounded in a mode.
+/// Writes bits to `places` decimal places, rounded in a mode.
 pub fn print_places(
     bits: i64,
     format: FixedFormat,
@@ -94,7 +94,7 @@ pub fn print_places(
     }
 }
 
-/// Hands over the answer to a line, and whether it names a fault.
+/// Writes the answer to a line, and whether it names a fault.
 pub fn answer_line(line: &[u8], out: &mut [u8], len: &mut usize, is_fault: &mut u32) -> u32
     ensures { IsAnswered line.now out.old out.new len.new is_fault.new result }
 {

@@ -1,4 +1,4 @@
-//! The calls of the crates below that count their steps, each with a counter of its own.
+//! The calls of lower crates that count their steps, each with its own counter.
 
 ghost use Rattle.std.specs.Prelude.{◌≡◌, ◌<◌, ◌≤◌, IfErr, IfOk, MatchResult, drop, length};
 ghost use Rattle.fixed_bits.specs.Ranges.{IsWide};
@@ -38,7 +38,7 @@ fn leading_over<L: Ledger>(
     leading_numeral(text, radix, &mut Steps::<L>::new(blank))
 }
 
-/// `leading_numeral`.
+/// `leading_numeral` with its own counter.
 pub fn leading_uncounted(text: &[u8], radix: Radix) -> Result<usize, ParseFixedError>
     ensures { MatchResult result
         (IsLeadingNumeral radix text.now)
@@ -66,7 +66,7 @@ fn ending_over<L: Ledger>(
     read_ending(text, from, radix, format, mode, &mut Steps::<L>::new(blank))
 }
 
-/// `read_ending`.
+/// `read_ending` with its own counter.
 pub fn ending_uncounted(
     text: &[u8],
     from: usize,
@@ -97,7 +97,7 @@ fn enclose_over<L: Ledger>(
     enclose(text, radix, format, &mut Steps::<L>::new(blank))
 }
 
-/// `enclose`.
+/// `enclose` with its own counter.
 pub fn enclose_uncounted(
     text: &[u8],
     radix: Radix,
@@ -131,7 +131,7 @@ fn respell_over<L: Ledger>(
     respell_mode(text, radix, source, target, policy, mode, &mut steps)
 }
 
-/// `respell_mode`.
+/// `respell_mode` with its own counter.
 pub fn respell_uncounted(
     text: &[u8],
     radix: Radix,
@@ -160,7 +160,7 @@ fn shortest_over<L: Ledger>(value: i128, frac: u32, blank: Blank) -> ShortText
     shortest(value, frac, &mut Steps::<L>::new(blank))
 }
 
-/// `shortest`.
+/// `shortest` with its own counter.
 pub fn shortest_uncounted(value: i128, frac: u32) -> ShortText
     requires wide { IsWide value }
     requires frac { frac ≤ 64 }
@@ -179,7 +179,7 @@ fn answer_over<L: Ledger>(line: &[u8], blank: Blank) -> Answer
     answer(line, &mut Steps::<L>::new(blank))
 }
 
-/// `answer`.
+/// `answer` with its own counter.
 pub fn answer_uncounted(line: &[u8]) -> Answer
     ensures { IsAnswer line.now result }
 {

@@ -1,4 +1,4 @@
-//! The words of formats.
+//! The names of formats.
 
 ghost use Rattle.std.specs.Prelude.{MatchResult};
 ghost use Rattle.fixed_c.specs.Numbers.{format_of};
@@ -9,13 +9,14 @@ use crate::arguments::{FixedFormat, format_of};
 use crate::number::flag;
 use crate::refusal::Refusal;
 use crate::texts::put_text;
-use fixed_respell::{format_name, format_named};
+use fixed_names::format_of_name;
+use fixed_respell::format_name;
 
-/// The format of a word.
+/// Returns the format that a word names.
 pub fn named_format(word: &[u8]) -> Result<FixedFormat, Refusal>
     ensures { MatchResult result (IsFormatNamed word.now) (WordIsRefused word.now) }
 {
-    match format_named(word) {
+    match format_of_name(word) {
         Some(format) => Ok(FixedFormat {
             is_signed: flag(format.signed()),
             width: format.width(),
@@ -25,7 +26,7 @@ pub fn named_format(word: &[u8]) -> Result<FixedFormat, Refusal>
     }
 }
 
-/// Hands over the word of a format.
+/// Writes the name of a format.
 pub fn put_word(format: FixedFormat, out: &mut [u8], len: &mut usize) -> u32
     ensures { TextEnds
         (λ word. IsFormatText word (format_of format.is_signed format.width format.frac))
