@@ -7,7 +7,7 @@ use std::alloc::Global;
 use std::io;
 use std::sync::ledger::Ledger;
 
-/// The number that a word spells in decimal, 0 where it spells none.
+/// Returns the number that a word spells in decimal, else 0.
 fn number(word: Option<&String>) -> u32 {
     match word {
         Some(digits) => match digits.as_str().parse::<u32>() {
@@ -18,7 +18,7 @@ fn number(word: Option<&String>) -> u32 {
     }
 }
 
-/// A word, or nothing where there is none.
+/// Returns a word, or an empty one if there is none.
 pub fn text<'a>(word: Option<&'a String>) -> &'a str {
     match word {
         Some(word) => word.as_str(),
@@ -26,7 +26,7 @@ pub fn text<'a>(word: Option<&'a String>) -> &'a str {
     }
 }
 
-/// Makes the calls that the words name, and answers their sum.
+/// Makes the calls that the words name, and returns the sum of their results.
 pub fn sum_of<L: Ledger>(
     words: &[String],
     inputs: &[String],
@@ -51,7 +51,7 @@ pub fn sum_of<L: Ledger>(
     }
 }
 
-/// The sum of what one work answers for numbers that are given by their bits; -1 where there is no such work.
+/// Returns the sum of the results of one work for numbers given by their bits; -1 if there is no such work.
 fn sum_over_bits<L: Ledger>(
     work: &str,
     word: &str,

@@ -6,7 +6,7 @@ use line_engine::{LineRule, MAX_LIMIT, Output, Status, run_lines};
 use std::alloc::Global;
 use std::sync::ledger::Ledger;
 
-/// Answers each line by one text.
+/// Answers each line with one text.
 #[derive(Clone, Copy)]
 pub struct ConstantRule;
 

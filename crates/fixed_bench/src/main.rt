@@ -1,8 +1,8 @@
 //! Times single library calls.
 //!
-//! `fixed_bench CALL TIMES WORDS..` reads the lines of standard input once, makes the call with each line, as many
-//! times over as TIMES says, and prints the sum of what the calls answered, so that none can be left out. With TIMES 0
-//! it makes no call, so that the difference of two runs is the time of the calls alone.
+//! `fixed_bench CALL TIMES WORDS..` reads the lines of standard input once, makes the call with each line TIMES times,
+//! and prints the sum of the results, so that no call can be left out. With TIMES 0 it makes no call, so that the
+//! difference of two runs is the time of the calls alone.
 //!
 //! | CALL | WORDS | A line | The call |
 //! |---|---|---|---|
@@ -19,7 +19,7 @@
 //! | `round` | FORMAT | bits | `overflowing_round` |
 //! | `convert` | FORMAT | bits | `overflowing_to_num` into I16F16 |
 //! | `compare` | FORMAT | bits | `cmp_num` with a number of U8F8 |
-//! | `engine` | | a line | the line engine alone, with a rule of one constant answer; TIMES is not looked at |
+//! | `engine` | | a line | the line engine alone, with a rule of one constant answer; TIMES is ignored |
 //!
 //! FORMAT is one of `I4F4`, `U16F16`, `I32F32` and `U0F64`.
 #![tactic(auto)]
@@ -41,7 +41,7 @@ use std::marker::Brand;
 use std::sync::ledger::{Blank, Ledger};
 use std::{env, io};
 
-/// The lines of standard input.
+/// Reads the lines of standard input.
 fn lines(rt: &HostRuntime) -> io::Result<Vec<String>> {
     let mut all = Vec::new(rt.alloc());
     for line in rt.lines(rt.alloc()) {
@@ -50,7 +50,7 @@ fn lines(rt: &HostRuntime) -> io::Result<Vec<String>> {
     Ok(all)
 }
 
-/// Makes the calls that the words name, with the steps on this blank, and answers their sum.
+/// Makes the calls that the words name, with the steps on this blank, and returns the sum of their results.
 fn sum_over<L: Ledger>(
     words: &[String],
     inputs: &[String],

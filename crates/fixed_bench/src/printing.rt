@@ -18,7 +18,7 @@ pub struct SignedBits {
 }
 
 impl SignedBits {
-    /// The bits that a line spells in decimal, 0 where it spells none.
+    /// Returns the bits that a line spells in decimal, else 0.
     fn of(line: &str) -> SignedBits {
         let (negative, digits) = match line.strip_prefix('-') {
             Some(digits) => (true, digits),
@@ -34,7 +34,7 @@ impl SignedBits {
         }
     }
 
-    /// The bits, 0 where they are below those of each signed type.
+    /// Returns the bits, 0 if they are below those of each signed type.
     #[inline]
     pub fn value(self) -> i128
         ensures { IsWide result }
@@ -49,7 +49,7 @@ impl SignedBits {
     }
 }
 
-/// The bits of each line.
+/// Returns the bits of each line.
 pub fn bits_of(alloc: Global, inputs: &[String]) -> Result<Vec<SignedBits>, AllocError> {
     let mut all = Vec::new(alloc);
     for input in inputs {
@@ -58,7 +58,7 @@ pub fn bits_of(alloc: Global, inputs: &[String]) -> Result<Vec<SignedBits>, Allo
     Ok(all)
 }
 
-/// The fraction length of the format that a word names.
+/// Returns the fraction length of the format that a word names.
 fn frac_of(format: &str) -> u32
     ensures { result ≤ 64 }
 {
@@ -70,7 +70,7 @@ fn frac_of(format: &str) -> u32
     }
 }
 
-/// The sum of the lengths and of the last bytes of the shortest texts, each a text of its own.
+/// Returns the sum of the lengths and of the last bytes of the shortest texts, each a separate text.
 pub fn write_as<L: Ledger>(
     format: &str,
     all: &[SignedBits],
@@ -88,7 +88,7 @@ pub fn write_as<L: Ledger>(
     sum
 }
 
-/// The sum of the lengths and of the last bytes of the shortest texts, written in place.
+/// Returns the sum of the lengths and of the last bytes of the shortest texts, written in place.
 pub fn append_as<L: Ledger>(
     format: &str,
     all: &[SignedBits],
@@ -108,7 +108,7 @@ pub fn append_as<L: Ledger>(
     sum
 }
 
-/// The sum of the lengths and of the last bytes of the texts to a count of places, written in place.
+/// Returns the sum of the lengths and of the last bytes of the texts to a count of places, written in place.
 pub fn places_as(format: &str, all: &[SignedBits], places: u32, times: u32) -> i128 {
     let frac = frac_of(format);
     let mut out: TextBuffer<256> = TextBuffer::new();
@@ -126,7 +126,7 @@ pub fn places_as(format: &str, all: &[SignedBits], places: u32, times: u32) -> i
     sum
 }
 
-/// The sum of the lengths and of the last bytes of the texts to a count of places, each in memory of its own.
+/// Returns the sum of the lengths and of the last bytes of the texts to a count of places, each allocated separately.
 pub fn styled_as(format: &str, alloc: Global, all: &[SignedBits], places: u16, times: u32) -> i128 {
     let frac = frac_of(format);
     let mut style = Style::plain(Notation::Dec);
@@ -144,7 +144,7 @@ pub fn styled_as(format: &str, alloc: Global, all: &[SignedBits], places: u16, t
     sum
 }
 
-/// The length of a text and its last byte.
+/// Returns the length of a text plus its last byte.
 #[inline]
 fn weight(text: &[u8]) -> i128 {
     let last = match text.last() {

@@ -6,7 +6,7 @@ use fixed_read::{ReadMode, overflowing_from_str_radix_mode_counted, read_ending}
 use fixed_steps::Steps;
 use std::sync::ledger::Ledger;
 
-/// The radix that a word names, 10 where it names none.
+/// Returns the radix that a word names, else 10.
 pub fn radix_of(word: &str) -> Radix {
     match word {
         "2" => Radix::Bin,
@@ -16,7 +16,7 @@ pub fn radix_of(word: &str) -> Radix {
     }
 }
 
-/// The sum of the counts of whole digits of the numerals.
+/// Returns the sum of the counts of whole digits of the numerals.
 pub fn scan_all<L: Ledger>(
     numerals: &[String],
     radix: Radix,
@@ -36,7 +36,7 @@ pub fn scan_all<L: Ledger>(
     sum
 }
 
-/// The sum of the bits that the decimal numerals are read as.
+/// Returns the sum of the bits that the decimal numerals read as.
 fn read_all<I: Inner, L: Ledger>(
     numerals: &[String],
     frac: u32,
@@ -81,7 +81,7 @@ pub fn read_as<L: Ledger>(
     }
 }
 
-/// The sum of the bits of I32F32 that the numerals are read as which the lines end with, from a place on.
+/// Returns the sum of the bits of I32F32 that the numerals at the ends of the lines read as, from byte `from` on.
 pub fn read_endings<L: Ledger>(
     lines: &[String],
     from: usize,

@@ -1,5 +1,5 @@
-//! The number type: reading, printing, rounding, conversion and order. What is counted in a loop of a few instructions
-//! would depend on the code around it, so such a loop is a function of its own.
+//! The number type: reading, printing, rounding, conversion and order. The measured cost of a loop of a few
+//! instructions would depend on the code around it, so such a loop is a separate function.
 
 ghost use Rattle.std.specs.Prelude.{◌≤◌};
 
@@ -10,7 +10,7 @@ use std::alloc::{AllocError, Global};
 use std::cmp::Ordering;
 use std::fmt::Write;
 
-/// What is done with each number.
+/// The operation on each number.
 #[derive(Clone, Copy)]
 pub enum Work {
     Round,
@@ -18,7 +18,7 @@ pub enum Work {
     Compare,
 }
 
-/// The work that a word names.
+/// Returns the work that a word names.
 pub fn work_of(word: &str) -> Option<Work> {
     match word {
         "round" => Some(Work::Round),
@@ -28,7 +28,7 @@ pub fn work_of(word: &str) -> Option<Work> {
     }
 }
 
-/// The sum of the bits that the decimal numerals are read as, by the number type of the format that a word names.
+/// Returns the sum of the bits that the decimal numerals read as, by the number type of the format that a word names.
 pub fn read_as(format: &str, numerals: &[String], times: u32) -> i128 {
     match format {
         "U16F16" => read_u16f16(numerals, times),
@@ -37,7 +37,7 @@ pub fn read_as(format: &str, numerals: &[String], times: u32) -> i128 {
     }
 }
 
-/// The sum of the bits that the decimal numerals are read as in U16F16.
+/// Returns the sum of the bits that the decimal numerals read as in U16F16.
 fn read_u16f16(numerals: &[String], times: u32) -> i128 {
     let mut sum: i128 = 0;
     for _pass in 0..times {
@@ -52,7 +52,7 @@ fn read_u16f16(numerals: &[String], times: u32) -> i128 {
     sum
 }
 
-/// The sum of the bits that the decimal numerals are read as in I32F32.
+/// Returns the sum of the bits that the decimal numerals read as in I32F32.
 fn read_i32f32(numerals: &[String], times: u32) -> i128 {
     let mut sum: i128 = 0;
     for _pass in 0..times {
@@ -67,7 +67,7 @@ fn read_i32f32(numerals: &[String], times: u32) -> i128 {
     sum
 }
 
-/// The numbers of these bits.
+/// Returns the numbers with these bits.
 fn numbers_of<I: Inner, const FRAC: u32>(
     alloc: Global,
     all: &[SignedBits],
@@ -79,7 +79,7 @@ fn numbers_of<I: Inner, const FRAC: u32>(
     Ok(numbers)
 }
 
-/// The sum of what the work answers for each number.
+/// Returns the sum of the work's results for each number.
 fn work_all<I: Inner, const FRAC: u32>(work: Work, numbers: &[Fixed<I, FRAC>], times: u32) -> i128
     requires { FRAC ≤ I.BITS }
 {
@@ -90,7 +90,7 @@ fn work_all<I: Inner, const FRAC: u32>(work: Work, numbers: &[Fixed<I, FRAC>], t
     }
 }
 
-/// The sum of the nearest whole numbers' bits.
+/// Returns the sum of the bits of the nearest whole numbers.
 #[inline(never)]
 fn round_all<I: Inner, const FRAC: u32>(numbers: &[Fixed<I, FRAC>], times: u32) -> i128
     requires { FRAC ≤ I.BITS }
@@ -105,7 +105,7 @@ fn round_all<I: Inner, const FRAC: u32>(numbers: &[Fixed<I, FRAC>], times: u32) 
     sum
 }
 
-/// The sum of the bits that the numbers have in I16F16.
+/// Returns the sum of the bits that the numbers have in I16F16.
 #[inline(never)]
 fn convert_all<I: Inner, const FRAC: u32>(numbers: &[Fixed<I, FRAC>], times: u32) -> i128
     requires { FRAC ≤ I.BITS }
@@ -120,7 +120,7 @@ fn convert_all<I: Inner, const FRAC: u32>(numbers: &[Fixed<I, FRAC>], times: u32
     sum
 }
 
-/// The count of numbers that are greater than one of U8F8.
+/// Counts the numbers that are greater than one of U8F8.
 #[inline(never)]
 fn compare_all<I: Inner, const FRAC: u32>(numbers: &[Fixed<I, FRAC>], times: u32) -> i128 {
     let limit = FixedU16::<8>::from_bits(3200);
@@ -153,7 +153,7 @@ pub fn work_as(
     Ok(sum)
 }
 
-/// The sum of the lengths of the texts that Display writes.
+/// Returns the sum of the lengths of the texts that Display writes.
 fn display_all<I: Inner, const FRAC: u32>(
     alloc: Global,
     numbers: &[Fixed<I, FRAC>],
@@ -173,7 +173,7 @@ fn display_all<I: Inner, const FRAC: u32>(
     sum
 }
 
-/// The sum of the lengths of the texts that Display writes with two places.
+/// Returns the sum of the lengths of the texts that Display writes with two places.
 fn display_places_all<I: Inner, const FRAC: u32>(
     alloc: Global,
     numbers: &[Fixed<I, FRAC>],

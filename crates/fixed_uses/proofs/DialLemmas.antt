@@ -1,4 +1,4 @@
--- A number moved down to whole degrees and saturated is what the dial shows.
+-- The dial shows a number moved down to whole degrees and saturated.
 use Rattle.std.proofs.Common.{◌≡◌, ◌⊎◌, ℤ, pos, neg_ℤ, true, sym, subst, inl, inr, arith}
 use Rattle.std.specs.Prelude.{◌<ℤ◌}
 use Rattle.std.proofs.lemmas.Int.{ints}

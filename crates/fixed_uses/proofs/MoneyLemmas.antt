@@ -1,4 +1,4 @@
--- A text in the style of a column is a cell of it.
+-- A text in the style of a column is one of its cells.
 use Rattle.std.proofs.Common.{◌≡◌, ℕ, zero, suc, ℤ, ◌+◌, ◌-◌, Bool, true, false, List, [], ◌∷◌, ◌++◌, length, replicate, Ok, Err, refl, sym, ap, subst, ◌∙◌, arith, length-append}
 use Rattle.std.specs.Prelude.{Result, Some, IfOk}
 use Rattle.std.specs.Char.{encode_utf8}
@@ -55,7 +55,7 @@ cell_of amount text s =
       cell_is = s.text_is ∙ padded_is (sign_and_prefix column_style (is_negative amount)) s.body ∙ ap (λ xs. replicate (12 - length xs) 32 ++ xs) shown;
     }
 
--- the style that a plain one becomes with two places and a width of 12
+-- a plain style with two places and a width of 12
 abbrev pub column : Style → Style
 column p = record { notation = p.notation; precision = Some 2; width = 12; fill = p.fill; align = p.align; plus = p.plus; prefix = p.prefix; zero_pad = p.zero_pad }
 

@@ -1,4 +1,4 @@
--- The text of a number in range is read as that number.
+-- The text of a number in range reads back as that number.
 use Rattle.std.proofs.Common.{◌≡◌, ℕ, ℤ, true, List, Ok, Err, ap, subst, arith}
 use Rattle.std.specs.Prelude.{Result, IfOk}
 use Rattle.std.proofs.lemmas.Bool.{false≢true}

@@ -1,4 +1,4 @@
--- A number read to the nearest is at most half a step away.
+-- A number rounded to the nearest is at most half a step away.
 use Rattle.std.proofs.Common.{◌≡◌, ℕ, ℤ, true, List, Ok, Err, refl}
 use Rattle.std.specs.Prelude.{Option, Result, IfSome}
 use Rattle.std.specs.Result.{result_ok}

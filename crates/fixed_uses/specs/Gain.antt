@@ -5,7 +5,7 @@ use Rattle.fixed_numeral.specs.declared.error.ParseErrorKind.{ParseErrorKind}
 use Rattle.fixed_numeral.specs.declared.radix.Radix.TheVariants.{Dec}
 use Rattle.fixed_point.specs.Readings.{IsPlainReading}
 
--- line is `gain = ` and a text
+-- line is `gain = ` followed by text
 abbrev pub SetsGain : List ℕ → List ℕ → Type 0
 SetsGain line text = line ≡ codes "gain = " ++ text
 

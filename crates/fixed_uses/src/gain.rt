@@ -1,4 +1,4 @@
-//! A line of a configuration, as `gain = 0.75`.
+//! A line of a configuration, such as `gain = 0.75`.
 
 ghost use Rattle.std.specs.Prelude.{List, ℕ, IfSome, IfNone};
 ghost use Rattle.fixed_uses.specs.Gain.{SetsGain, IsGain};
@@ -6,7 +6,7 @@ ghost use Rattle.fixed_uses.specs.Gain.{SetsGain, IsGain};
 use fixed_point::ParseFixedError;
 use fixed_point::types::I16F16;
 
-/// The gain that a line sets, or why its number is refused; `None` exactly if the line does not set the gain.
+/// Reads the gain that a line sets, or why its number is refused; `None` exactly if the line does not set the gain.
 pub fn gain(line: &[u8]) -> Option<Result<I16F16, ParseFixedError>>
     ensures some { IfSome result (λ answer. (text : List ℕ) × SetsGain line.now text × IsGain text answer) }
     ensures none { IfNone result ((text : List ℕ) → ¬ SetsGain line.now text) }

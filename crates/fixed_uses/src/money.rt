@@ -7,7 +7,7 @@ use fixed_point::types::I24F8;
 use fixed_point::{NoMemory, Notation, Style, Text};
 use std::alloc::Global;
 
-/// An amount to the nearest cent, right-aligned in 12 characters.
+/// Writes an amount to the nearest cent, right-aligned in 12 characters.
 pub fn amount_cell(alloc: Global, amount: I24F8) -> Result<Text, NoMemory>
     ensures { IfOk result (IsAmountCell amount) }
 {

@@ -11,7 +11,7 @@ use fixed_point::{NoMemory, Notation, Style, Text};
 use fixed_write::to_text;
 use std::alloc::Global;
 
-/// The number as text.
+/// Writes the number as text.
 pub fn saved(alloc: Global, number: I16F16) -> Result<Text, NoMemory>
     ensures { IfOk result (λ text. (answer : Result ℤ ParseErrorKind) → IsGain text answer → answer ≡ Ok number) }
 {

@@ -9,7 +9,7 @@ ghost use Rattle.fixed_uses.specs.Taps.{IsTap};
 
 use fixed_point::types::{I1F7, I1F15};
 
-/// The tap nearest to a decimal number; `None` exactly if the text is not a numeral or its tap does not fit.
+/// Reads the tap nearest to a decimal number; `None` exactly if the text is not a numeral or its tap does not fit.
 pub fn tap(text: &str) -> Option<I1F15>
     ensures some { IfSome result (IsTap 15 text.now) }
     ensures none { IfNone result (¬ IsReadInRange NearestEven Dec (HasNumeral Dec text.now) 15 true 16) }

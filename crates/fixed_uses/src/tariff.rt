@@ -1,10 +1,10 @@
-//! A tariff: what energy costs, and the sum of two amounts.
+//! A tariff: the cost of energy, and the sum of two amounts.
 
 ghost use Rattle.std.specs.Prelude.{◌≡◌, ◌↔◌, ◌+◌, ◌-◌, ◌*◌, ◌/◌, ◌^◌, ◌<◌, ◌≤◌, IsSome, IfSome};
 
 use fixed_point::types::{U16F16, U48F16};
 
-/// The exact cost of `units` at a price each, and of a standing charge.
+/// The exact cost of `units` at a price each, plus a standing charge.
 pub fn cost(price: U16F16, units: u32, standing: U16F16) -> U48F16
     ensures { result ≡ price * units + standing }
 {

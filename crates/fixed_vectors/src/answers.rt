@@ -1,4 +1,4 @@
-//! What is written for an answer. Generic calls hand over what they answer, so that each line is formatted once.
+//! Writes results. Generic calls pass their results here, so that each line is formatted once.
 
 use std::cmp::Ordering;
 use std::io;

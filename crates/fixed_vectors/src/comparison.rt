@@ -7,7 +7,7 @@ use fixed_convert::NumTarget;
 use fixed_point::Fixed;
 use std::io;
 
-/// Writes the order of two numbers and what the five comparisons answer: `TYPE TYPE BITS BITS`.
+/// Writes the order of two numbers and the results of the five comparisons: `TYPE TYPE BITS BITS`.
 pub fn answer(
     rt: &impl Print,
     one: &str,

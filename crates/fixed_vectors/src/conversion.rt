@@ -9,8 +9,8 @@ use fixed_convert::{Num, NumTarget};
 use fixed_point::Fixed;
 use std::io;
 
-/// Writes what a conversion answers: `FORM SOURCE TARGET BITS`. Bits that are even go through `to_num` where the source
-/// is a `Fixed`, all others through `from_num`.
+/// Writes the result of a conversion: `FORM SOURCE TARGET BITS`. Even bits go through `to_num` if the source is a
+/// `Fixed`, all others through `from_num`.
 pub fn answer(
     rt: &impl Print,
     form: &str,
@@ -119,7 +119,7 @@ fn to_num<D: NumTarget, I: Inner, const FRAC: u32>(
     }
 }
 
-/// From a number of any type to each format; to integers by `to_num` of the format alone.
+/// Converts a number of any type to each format with `from_num`. An integer target is a format without fraction bits.
 fn from_each<S: NumTarget>(rt: &impl Print, src: S, form: &str, target: &str) -> io::Result<()>
     requires { S.FRAC ≤ S.WIDTH }
 {

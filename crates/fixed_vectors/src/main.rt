@@ -1,6 +1,6 @@
-//! Answers lines that name a call of the library and what it is made with, so that another implementation can be
-//! compared with it. `oracle/typed.py` describes the lines about typed calls of `fixed_point`, `oracle/styled.py` those
-//! about texts in a style (`styles`); each makes such lines and answers them.
+//! Answers lines that name a call of the library and its arguments, so that another implementation can be compared with
+//! it. `oracle/typed.py` describes the lines about typed calls of `fixed_point`, `oracle/styled.py` those about texts
+//! in a style (`styles`); each makes such lines and answers them.
 #![tactic(auto)]
 
 mod answers;
@@ -25,7 +25,7 @@ fn main(rt: HostRuntime) -> io::Result<()> {
     answer_lines::<Brand>(&rt, Blank::new(1))
 }
 
-/// Answers each line of standard input by a line.
+/// Answers each line of standard input with a line.
 fn answer_lines<L: Ledger>(rt: &HostRuntime, blank: Blank) -> io::Result<()>
     requires name { blank.name ≡ L.name }
     requires parts { blank.parts ≡ L.parts }

@@ -8,7 +8,7 @@ use fixed_numeral::{ParseFixedError, Radix};
 use fixed_point::Fixed;
 use std::io;
 
-/// Writes what a literal reads as.
+/// Writes the number that a literal reads as.
 pub fn literal<I: Inner, const FRAC: u32>(
     rt: &impl Print,
     _zero: Fixed<I, FRAC>,
@@ -19,7 +19,7 @@ pub fn literal<I: Inner, const FRAC: u32>(
     write_number(rt, Fixed::<I, FRAC>::lit(text))
 }
 
-/// Writes what a reading call answers.
+/// Writes the result of a reading call.
 pub fn read<I: Inner, const FRAC: u32>(
     rt: &impl Print,
     zero: Fixed<I, FRAC>,
@@ -36,7 +36,7 @@ pub fn read<I: Inner, const FRAC: u32>(
     }
 }
 
-/// The mode of a word, any of the nine.
+/// Returns the mode of a word, any of the nine.
 pub fn mode_of(word: &str) -> ReadMode {
     match word {
         "ties-away" => ReadMode::NearestAway,
@@ -83,7 +83,7 @@ fn read_in_mode<I: Inner, const FRAC: u32>(
     }
 }
 
-/// Writes the answers of the calls on a text and on its bytes.
+/// Writes the result of the call on a text or, if its length is odd, of the call on its bytes.
 macro_rules! both_calls {
     ($rt:expr, $form:expr, $text:expr, $plain:ident, $plain_bytes:ident, $saturating:ident, $saturating_bytes:ident,
         $wrapping:ident, $wrapping_bytes:ident, $overflowing:ident, $overflowing_bytes:ident) => {

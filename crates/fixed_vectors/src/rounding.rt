@@ -7,7 +7,7 @@ use fixed_bits::Inner;
 use fixed_point::Fixed;
 use std::io;
 
-/// The form of a call, and the rounding that it names.
+/// Splits a call into its form and the rounding that it names.
 fn form_of(call: &str) -> (&str, &str) {
     let (form, name) = call.split_once('_').unwrap_or(("", call));
     match form {
@@ -16,7 +16,7 @@ fn form_of(call: &str) -> (&str, &str) {
     }
 }
 
-/// Writes what a rounding call of this name answers for a number.
+/// Writes the result of the rounding call with this name for a number.
 pub fn round<I: Inner, const FRAC: u32>(
     rt: &impl Print,
     x: Fixed<I, FRAC>,
@@ -36,7 +36,7 @@ pub fn round<I: Inner, const FRAC: u32>(
     }
 }
 
-/// Writes the answer of a form of a rounding; `none` where the plain and the strict form may not be called.
+/// Writes the result of a form of a rounding; `none` in place of a plain, checked or strict result that does not fit.
 macro_rules! six_forms {
     ($rt:expr, $x:expr, $form:expr, $plain:ident, $checked:ident, $saturating:ident, $wrapping:ident, $strict:ident,
         $overflowing:ident) => {

@@ -1,4 +1,4 @@
-//! Calls on one number, or on a text that one number is read from.
+//! Calls on one number, or on a text that reads as one number.
 
 ghost use Rattle.std.specs.Prelude.{◌≤◌};
 
@@ -9,8 +9,8 @@ use fixed_bits::Inner;
 use fixed_point::Fixed;
 use std::io;
 
-/// A call: its name, its form or what it rounds to, and the text that is read with its mode and its radix. A word is
-/// empty where the call takes none.
+/// A call: its name, its form or what it rounds to, and the text to read with its mode and radix. A word is empty if
+/// the call takes none.
 #[derive(Drop)]
 struct Call<'a> {
     name: &'a str,
@@ -20,7 +20,7 @@ struct Call<'a> {
     text: &'a str,
 }
 
-/// Writes what a reading call answers: `FORM MODE RADIX TYPE TEXT`.
+/// Writes the result of a reading call: `FORM MODE RADIX TYPE TEXT`.
 pub fn answer_reading(rt: &impl Print, rest: &str) -> io::Result<()> {
     let (form, rest) = rest.split_once(' ').unwrap_or((rest, ""));
     let (mode, rest) = rest.split_once(' ').unwrap_or((rest, ""));
@@ -36,7 +36,7 @@ pub fn answer_reading(rt: &impl Print, rest: &str) -> io::Result<()> {
     at_type(rt, word, 0, &call)
 }
 
-/// Writes what a literal reads as: `TYPE TEXT`.
+/// Writes the number that a literal reads as: `TYPE TEXT`.
 pub fn answer_literal(rt: &impl Print, rest: &str) -> io::Result<()> {
     let (word, text) = rest.split_once(' ').unwrap_or((rest, ""));
     let call = Call {
@@ -49,7 +49,7 @@ pub fn answer_literal(rt: &impl Print, rest: &str) -> io::Result<()> {
     at_type(rt, word, 0, &call)
 }
 
-/// Writes what a rounding call answers, or what Display writes where the form is `show`: a type and bits.
+/// Writes the result of a rounding call, or of Display if the form is `show`: a type and bits.
 pub fn answer_bits(rt: &impl Print, form: &str, word: &str, bits: &str) -> io::Result<()> {
     let call = Call {
         name: "bits",
@@ -72,7 +72,7 @@ fn at_type(rt: &impl Print, word: &str, bits: i128, call: &Call<'_>) -> io::Resu
     )
 }
 
-/// Writes what Display writes of a number of a format that no other call is made with.
+/// Writes what Display writes for a number of a format that no other call uses.
 fn shown_alone(rt: &impl Print, form: &str, word: &str, bits: i128) -> io::Result<()> {
     match (form, word) {
         ("show", "i8.100") => show(rt, Fixed::<i8, 100>::from_bits(Inner::wrap(bits))),

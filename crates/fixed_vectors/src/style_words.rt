@@ -1,4 +1,4 @@
-//! The words of a line that asks for a text in a style.
+//! The words of a line that requests a text in a style.
 
 ghost use Rattle.std.specs.Prelude.{◌≤◌, IfSome};
 ghost use Rattle.fixed_bits.specs.Ranges.{IsWide};
@@ -6,7 +6,7 @@ ghost use Rattle.fixed_bits.specs.Ranges.{IsWide};
 use fixed_write::{Align, Base, Notation, Style};
 use std::str::Split;
 
-/// The bits that a word spells.
+/// Returns the bits that a word spells.
 pub(crate) fn bits_word(word: &str) -> Option<i128>
     ensures { IfSome result (λ v. IsWide v) }
 {
@@ -19,7 +19,7 @@ pub(crate) fn bits_word(word: &str) -> Option<i128>
     }
 }
 
-/// A number of at most 64 that a word spells.
+/// Returns the number of at most 64 that a word spells.
 pub(crate) fn small_word(word: &str) -> Option<u32>
     ensures { IfSome result (λ n. n ≤ 64) }
 {
@@ -29,7 +29,7 @@ pub(crate) fn small_word(word: &str) -> Option<u32>
     }
 }
 
-/// The bits that the next word spells, and the fraction length that the one after it does.
+/// Returns the bits that the next word spells, and the fraction length that the word after it spells.
 pub(crate) fn number_words(words: &mut Split<'_, char>) -> Option<(i128, u32)>
     ensures { IfSome result (λ number. IsWide number.0 × number.1 ≤ 64) }
 {
@@ -38,7 +38,7 @@ pub(crate) fn number_words(words: &mut Split<'_, char>) -> Option<(i128, u32)>
     Some((bits, frac))
 }
 
-/// The base that a word names.
+/// Returns the base that a word names.
 pub(crate) fn base_word(word: &str) -> Option<Base> {
     match word {
         "bin" => Some(Base::Bin),
@@ -96,7 +96,7 @@ fn fill_word(word: &str) -> Option<char> {
     }
 }
 
-/// The style that six words describe.
+/// Returns the style that six words describe.
 pub(crate) fn style_words(words: &mut Split<'_, char>) -> Option<Style> {
     let notation = notation_word(words.next()?)?;
     let precision = precision_word(words.next()?)?;

@@ -1,5 +1,5 @@
-//! Texts of numbers in styles that lines describe. Bits are in decimal; the fill is a code point, and the flags are
-//! some of `+`, `#`, `0`, or `-` for none:
+//! Texts of numbers in styles that lines describe. Bits are in decimal; the fill is a code point; the flags are some of
+//! `+`, `#` and `0`, or `-` for none:
 //!
 //! - `text NOTATION PRECISION WIDTH FILL ALIGN FLAGS BITS FRAC`
 //! - `decimal PLACES BITS FRAC`
@@ -20,10 +20,10 @@ use text_buffer::TextBuffer;
 /// A text in place.
 type Place = TextBuffer<192>;
 
-/// What is answered to a line that describes nothing.
+/// The answer to a line that describes nothing.
 const BAD_LINE: &[u8] = b"bad line";
 
-/// The text that a line asks for; None where it asks for none.
+/// Writes the text that a line requests; `None` if it requests none.
 pub(crate) fn text_of<L: Ledger>(
     alloc: Global,
     line: &str,
@@ -39,7 +39,7 @@ pub(crate) fn text_of<L: Ledger>(
     }
 }
 
-/// The text that a line asks for in place.
+/// Writes the text that a line requests in place.
 fn text_in_place<L: Ledger>(
     alloc: Global,
     line: &str,
@@ -55,7 +55,7 @@ fn text_in_place<L: Ledger>(
     Vec::from_slice(alloc, place.as_bytes())
 }
 
-/// The text in memory that the words of a line after `text` ask for.
+/// Writes the text in memory that the words of a line after `text` request.
 fn styled(alloc: Global, words: &mut Split<'_, char>) -> Result<Vec<u8>, AllocError> {
     let Some(style) = style_words(words) else {
         return Vec::from_slice(alloc, BAD_LINE);
@@ -69,7 +69,7 @@ fn styled(alloc: Global, words: &mut Split<'_, char>) -> Result<Vec<u8>, AllocEr
     }
 }
 
-/// A text that takes no memory; None where the line describes nothing.
+/// Writes a text without allocation; `None` if the line describes nothing.
 fn in_place<L: Ledger>(
     call: &str,
     words: &mut Split<'_, char>,

@@ -2,7 +2,7 @@
 
 ghost use Rattle.fixed_bits.specs.Ranges.{IsWide};
 
-/// The whole number that a word spells in decimal; 0 where it spells none of 64 bits.
+/// Returns the whole number that a word spells in decimal; 0 if it does not spell one of 64 bits.
 pub fn number_of(word: &str) -> i128
     ensures { IsWide result }
 {
@@ -15,7 +15,7 @@ pub fn number_of(word: &str) -> i128
     }
 }
 
-/// Calls a function with the number that has these bits in the format that a word names, `i8.4` for FixedI8<4>.
+/// Calls a function with the number that has these bits in the format that a word names, such as `i8.4` for FixedI8<4>.
 macro_rules! at_format {
     ($word:expr, $bits:expr, $call:ident ( $($given:expr),* ), $rt:expr, $otherwise:expr) => {
         match $word {
@@ -40,7 +40,7 @@ macro_rules! at_format {
     };
 }
 
-/// The same for the ten formats that pairs are made of.
+/// The same for the ten formats of pairs.
 macro_rules! at_pair_format {
     ($word:expr, $bits:expr, $call:ident ( $($given:expr),* ), $rt:expr, $otherwise:expr) => {
         match $word {

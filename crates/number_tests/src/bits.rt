@@ -146,7 +146,7 @@ fn ten_times_a_fraction(rt: HostRuntime) {
     assert!(rt; mul10(18_446_744_073_709_551_615, 64) == (9, 18_446_744_073_709_551_606));
 }
 
-/// Whether a type's ends are these, and a number past one saturates to it and wraps to the other.
+/// Whether a type's ends are these, and a number past either end saturates to it and wraps to the other.
 fn has_ends<I: Inner>(low: i128, high: i128) -> bool {
     let (least, greatest) = (I::MIN.value(), I::MAX.value());
     let saturates = I::saturate(least - 1) == I::MIN && I::saturate(greatest + 1) == I::MAX;

@@ -2,9 +2,9 @@
 
 use fixed_bits::{Format, Policy};
 use fixed_convert::{
-    Cast, CheckedCast, Floored, FromFixed, LosslessTryFrom, LossyFrom, OverflowingCast,
-    SaturatingCast, StrictCast, ToFixed, UnwrappedCast, WrappingCast, compare, floor_into,
-    lossless_from, reformat,
+    Cast, CheckedCast, Floored, FromFixed, LosslessTryFrom, LossyFrom, Num, NumTarget,
+    OverflowingCast, SaturatingCast, StrictCast, ToFixed, UnwrappedCast, WrappingCast, compare,
+    floor_into, lossless_from, reformat,
 };
 use fixed_point::{
     Ends, Fixed, FixedI8, FixedI16, FixedI32, FixedI64, FixedU8, FixedU16, FixedU64,
@@ -21,6 +21,16 @@ fn a_move_rounds_down(rt: HostRuntime) {
     let high = floor_into(9_223_372_036_854_775_808, 0, 64);
     assert!(rt; !high.fits::<u64>() && high.wrap::<u64>() == 0);
     assert!(rt; high.clamp::<u64>() == u64::MAX && high.clamp::<i8>() == 127);
+    assert!(rt; !FixedI16::<4>::fits_wide(high) && FixedI16::<4>::fits_wide(low));
+    assert!(rt; FixedU8::<8>::wrap_wide(high).to_bits() == 0 && i8::clamp_wide(high) == 127);
+    assert!(rt; FixedI8::<4>::wrap_wide(low).to_bits() == -3 && u8::clamp_wide(low) == 0);
+}
+
+#[test]
+fn a_number_has_a_sign_rule_and_a_width(rt: HostRuntime) {
+    assert!(rt; <FixedI16<4> as Num>::SIGNED && <FixedI16<4> as Num>::WIDTH == 16);
+    assert!(rt; !<u64 as Num>::SIGNED && <u64 as Num>::WIDTH == 64);
+    assert!(rt; !<bool as Num>::SIGNED && <bool as Num>::WIDTH == 1);
 }
 
 #[test]

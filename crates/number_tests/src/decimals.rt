@@ -1,5 +1,5 @@
 //! Decimal formats, at numerals whose numbers are those of Python's `decimal`. It has seven of the nine modes; the
-//! other two are its FLOOR and CEILING of a number that is moved by half a unit.
+//! other two are its FLOOR and CEILING of a number moved by half a unit.
 
 use fixed_bits::{Policy, ReadMode};
 use fixed_decimal::{
@@ -7,7 +7,7 @@ use fixed_decimal::{
 };
 use text_buffer::TextBuffer;
 
-/// A numeral read into a decimal format. `None` if one of them is none.
+/// Reads a numeral into a decimal format. `None` if either is invalid.
 fn read(text: &str, places: u32, mode: ReadMode) -> Option<DecimalNumber> {
     let format = DecimalFormat::new(places)?;
     match read_decimal_format_uncounted(text.as_bytes(), format, mode) {
@@ -101,7 +101,7 @@ const MOST: i64 = 9_223_372_036_854_775_807;
 /// The least number of 64 bits with a sign.
 const LEAST: i64 = -9_223_372_036_854_775_808;
 
-/// Whether a numeral is in range, is exact as this says, and has this number under each policy.
+/// Whether a numeral is in range, is exact as given, and has this number under each policy.
 fn is_within(text: &str, places: u32, is_exact: bool, number: i64) -> bool {
     match read(text, places, ReadMode::NearestEven) {
         Some(found) => {
@@ -142,7 +142,7 @@ fn the_ends_of_64_bits_are_in_range(rt: HostRuntime) {
     }
 }
 
-/// Whether a numeral is out of range, is exact as this says, and is clipped and wrapped to these numbers.
+/// Whether a numeral is out of range, is exact as given, and is clipped and wrapped to these numbers.
 fn is_beyond(text: &str, places: u32, is_exact: bool, end: i64, wrapped: i64) -> bool {
     match read(text, places, ReadMode::NearestEven) {
         Some(found) => {

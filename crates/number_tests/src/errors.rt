@@ -20,7 +20,7 @@ struct Case {
     want: bool,
 }
 
-/// The case of two numerals that are rounded to nearest.
+/// Returns the case of two numerals that are rounded to nearest.
 fn row(radix: Radix, frac: u32, one: &'static str, other: &'static str, want: bool) -> Case {
     Case {
         radix,
@@ -32,7 +32,7 @@ fn row(radix: Radix, frac: u32, one: &'static str, other: &'static str, want: bo
     }
 }
 
-/// The case of two decimals that are rounded in a mode to sixteenths.
+/// Returns the case of two decimals that are rounded in a mode to sixteenths.
 fn moded(mode: ReadMode, one: &'static str, other: &'static str, want: bool) -> Case {
     Case {
         radix: Radix::Dec,
@@ -44,7 +44,7 @@ fn moded(mode: ReadMode, one: &'static str, other: &'static str, want: bool) -> 
     }
 }
 
-/// Whether the first of two numerals has the greater error. `None` where one is no numeral of fewer than 2^64 ulps.
+/// Whether the first of two numerals has the greater error. `None` if one is not a numeral of fewer than 2^64 ulps.
 fn is_greater<L: Ledger>(case: &Case, steps: &mut Steps<L>) -> Option<bool>
     requires { case.now.frac ≤ 64 }
 {
@@ -57,7 +57,7 @@ fn is_greater<L: Ledger>(case: &Case, steps: &mut Steps<L>) -> Option<bool>
     Some(is_error_greater(one, other, case.radix, case.frac, case.mode, steps))
 }
 
-/// Whether each case is answered as is wanted, with a counter of steps of its own.
+/// Whether each case has the wanted answer, with its own counter of steps.
 fn are_as_wanted<L: Ledger>(cases: &[Case], blank: Blank) -> bool
     requires name { blank.name ≡ L.name }
     requires parts { blank.parts ≡ L.parts }
@@ -112,6 +112,73 @@ fn the_greater_error_is_found_whatever_the_digits(rt: HostRuntime) {
 }
 
 #[test]
+fn short_decimals_are_compared_by_words(rt: HostRuntime) {
+    let dec = Radix::Dec;
+    let cases = [
+        row(dec, 15, "0.3", "0.7", false),
+        row(dec, 15, "-12.3456", "654.4321", true),
+        row(dec, 64, "0.3", "0.70", false),
+        row(
+            dec,
+            63,
+            "0.123456789012345678",
+            "0.876543210987654321",
+            true,
+        ),
+        row(
+            dec,
+            64,
+            "0.123456789012345678",
+            "0.123456789012345677",
+            true,
+        ),
+        row(dec, 53, "0.1", "0.3", false),
+        row(dec, 10, "9999999999999999.25", "0.1", false),
+    ];
+    assert!(rt; are_ordered(&cases));
+}
+
+#[test]
+fn short_decimals_near_half_an_ulp_are_compared_by_words(rt: HostRuntime) {
+    let dec = Radix::Dec;
+    let cases = [
+        row(
+            dec,
+            17,
+            "0.000003814697265625",
+            "0.000003814697265624",
+            true,
+        ),
+        row(
+            dec,
+            17,
+            "0.000003814697265624",
+            "0.000003814697265625",
+            false,
+        ),
+        row(
+            dec,
+            17,
+            "0.000003814697265625",
+            "0.0000038146972656251",
+            true,
+        ),
+        row(dec, 3, "0.0625", "0.1875", false),
+        row(dec, 3, "0.0625", "0.187", true),
+        row(
+            dec,
+            0,
+            "0.999999999999999999",
+            "0.000000000000000001",
+            false,
+        ),
+        row(dec, 0, "0.999999999999999998", "0.000000000000000001", true),
+        row(dec, 1, "0.75", "0.250000000000000001", true),
+    ];
+    assert!(rt; are_ordered(&cases));
+}
+
+#[test]
 fn zeros_of_exponents_are_passed_over(rt: HostRuntime) {
     let (hex, dec) = (Radix::Hex, Radix::Dec);
     let cases = [
@@ -140,7 +207,7 @@ fn the_mode_decides_which_error_is_the_greater(rt: HostRuntime) {
     assert!(rt; are_ordered(&cases));
 }
 
-/// Whether the error of a numeral is above a bound, at each of some rows.
+/// Whether each row says correctly whether the error of a numeral is above a bound.
 fn are_bounded<L: Ledger>(rows: &[(u32, &str, &str, bool)], blank: Blank) -> bool
     requires name { blank.name ≡ L.name }
     requires parts { blank.parts ≡ L.parts }

@@ -1,4 +1,5 @@
-//! What texts read as. The kinds and digits are those of worked examples, or follow from the rule that a row names.
+//! The numbers that texts read as. The kinds and digits come from worked examples, or follow from the rule that a row
+//! names.
 
 use fixed_numeral::{ParseErrorKind, ParseFixedError, Radix, ShortNumeral};
 use std::test::Fail;
@@ -38,7 +39,7 @@ fn point_is_moved_and_zeros_are_stripped(rt: HostRuntime) {
     assert!(rt; reads(Radix::Dec, "-1", negative));
 }
 
-/// Texts that are no numerals of any radix, and why.
+/// Texts that are not numerals of any radix, and why.
 const REFUSED: [(&str, ParseErrorKind); 14] = [
     ("g", ParseErrorKind::InvalidDigit),
     ("1_0", ParseErrorKind::InvalidDigit),
@@ -78,7 +79,7 @@ fn another_byte_among_digits_is_reported(rt: HostRuntime) {
     }
 }
 
-/// Decimals, and how many digits are before the point and after it.
+/// Decimals, and how many digits are before and after the point.
 const LONG_RUNS: [(&str, u64, u64); 8] = [
     ("1234567", 7, 0),
     ("12345678", 8, 0),
@@ -101,7 +102,7 @@ fn long_runs_of_digits_are_read(rt: HostRuntime) {
     }
 }
 
-/// Texts that are no numerals of a radix, and why.
+/// Texts that are not numerals of a radix, and why.
 const USELESS: [(Radix, &str, ParseErrorKind); 11] = [
     (Radix::Bin, "2", ParseErrorKind::InvalidDigit),
     (Radix::Oct, "8", ParseErrorKind::InvalidDigit),
@@ -173,7 +174,7 @@ fn literals_are_read(rt: HostRuntime) {
     assert!(rt; literal(true, "-0x1.C", Radix::Hex, negative));
 }
 
-/// Texts that are no literals, of a signed type or of another, and why.
+/// Texts that are not literals of a signed or an unsigned type, and why.
 const NO_LITERALS: [(bool, &str, ParseErrorKind); 11] = [
     (false, "-0x1.C", ParseErrorKind::MisplacedSign),
     (false, "+1", ParseErrorKind::MisplacedSign),
@@ -235,7 +236,7 @@ fn each_kind_has_its_message(rt: HostRuntime) -> Result<(), Fail> {
     Ok(())
 }
 
-/// Exponents of many digits, and how many digits are before the point and after it.
+/// Exponents of many digits, and how many digits are before and after the point.
 const LONG_EXPONENTS: [(&str, u64, u64); 4] = [
     ("1e00000000000000000000000000000005", 6, 0),
     ("1e+0000000000000005", 6, 0),
@@ -243,7 +244,7 @@ const LONG_EXPONENTS: [(&str, u64, u64); 4] = [
     ("1e02147483647", 2147483648, 0),
 ];
 
-/// Exponents of many digits that are none, and why.
+/// Invalid exponents of many digits, and why.
 const BAD_EXPONENTS: [(&str, ParseErrorKind); 4] = [
     ("1e2147483648", ParseErrorKind::ExpOverflow),
     ("1e0000000021474836480", ParseErrorKind::ExpOverflow),
@@ -309,7 +310,7 @@ const PLAIN: [(&str, bool, u64, u128, u32); 16] = [
     ),
 ];
 
-/// Numerals of any radix, with the same; their exponents, and whether these count powers of two.
+/// Numerals of any radix, with the same parts, their exponents, and whether these count powers of two.
 const SCALED: [(Radix, &str, bool, u64, u128, u32, i32, bool); 13] = [
     (Radix::Dec, "00.00012@-7", false, 0, 12, 5, -7, false),
     (
@@ -371,7 +372,7 @@ const SCALED: [(Radix, &str, bool, u64, u128, u32, i32, bool); 13] = [
     (Radix::Bin, "-1111111111111.1", true, 0x1fff, 1, 1, 0, false),
 ];
 
-/// Whether a numeral is read so, alone and after other bytes.
+/// Whether a numeral reads as wanted, alone and after other bytes.
 fn is_short(radix: Radix, text: &str, want: ShortNumeral) -> bool {
     short(radix, text) == Some(want) && short_after(radix, text) == Some(want)
 }
@@ -406,7 +407,7 @@ fn short_numerals_are_read(rt: HostRuntime) {
     }
 }
 
-/// Texts that are no numerals, or no short ones.
+/// Texts that are not numerals, or not short ones.
 const NOT_SHORT: [(Radix, &str); 32] = [
     (Radix::Dec, ""),
     (Radix::Dec, "-"),
@@ -466,7 +467,7 @@ fn another_byte_in_a_short_decimal_is_noticed(rt: HostRuntime) {
     }
 }
 
-/// Texts of which a prefix is a numeral, and how long the longest one is.
+/// Texts with a prefix that is a numeral, and the length of the longest one.
 const LEADING: [(Radix, &str, usize); 17] = [
     (Radix::Dec, "1.5", 3),
     (Radix::Dec, "1.5 m", 3),
@@ -494,7 +495,7 @@ fn the_numeral_at_a_beginning_is_the_longest(rt: HostRuntime) {
     }
 }
 
-/// Texts of which no prefix is a numeral, and why they are none.
+/// Texts without a prefix that is a numeral, and why.
 const NOT_LEADING: [(&str, ParseErrorKind); 8] = [
     ("", ParseErrorKind::NoDigits),
     (".", ParseErrorKind::NoDigits),

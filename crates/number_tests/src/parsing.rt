@@ -1,4 +1,4 @@
-//! Reading through std's `FromStr`, and what a refusal says.
+//! Reading through std's `FromStr`, and the messages of refusals.
 
 use fixed_numeral::{ParseErrorKind, ParseFixedError};
 use fixed_point::{Fixed, FixedI8, FixedU16};

@@ -1,5 +1,5 @@
-//! What Display and Debug write for a formatter, and what a base and a style do. Default texts are in the stored run of
-//! `fixed_vectors`, and the styles in `writing`.
+//! What Display and Debug write for a formatter, and the effect of a base and a style. Default texts are in the stored
+//! run of `fixed_vectors`, and the styles in `writing`.
 
 use fixed_point::{Fixed, FixedI8, FixedI32};
 use fixed_write::{Notation, Style};

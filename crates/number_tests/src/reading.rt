@@ -1,5 +1,5 @@
-//! What one reading into a format finds, at numerals whose read numbers were worked out by hand. Ties, halfway points
-//! and the ends of ranges in each mode are lines of the stored run of `fixed_tool`.
+//! The results of one reading into a format, at numerals whose read numbers were worked out by hand. Ties, halfway
+//! points and the ends of ranges in each mode are lines of the stored run of `fixed_tool`.
 
 ghost use Rattle.std.specs.Prelude.{◌≡◌, ◌<◌};
 

@@ -46,7 +46,7 @@ fn numbers_are_compared_with_bytes(rt: HostRuntime) {
     assert!(rt; FixedU8::<0>::from_bits(7).eq_num(7u8));
 }
 
-/// Whether floor, ceil, round and round_ties_even take bits to these of a multiple of one, by their definitions.
+/// Whether floor, ceil, round and round_ties_even take bits to this multiple of one, by their definitions.
 fn are_results(bits: i128, one: i128, multiple: i128) -> (bool, bool, bool, bool) {
     let whole = one.wrapping_mul(multiple);
     let past = bits.wrapping_sub(whole);
@@ -60,13 +60,13 @@ fn are_results(bits: i128, one: i128, multiple: i128) -> (bool, bool, bool, bool
     )
 }
 
-/// Whether an overflowing rounding answered with the image of a whole result, and said whether that is out of range.
+/// Whether an overflowing rounding returned the image of a whole result, and said whether that is out of range.
 fn is_image<I: Inner, const FRAC: u32>(answer: (Fixed<I, FRAC>, bool), whole: i128) -> bool {
     let (number, overflowed) = answer;
     number.to_bits() == I::wrap(whole) && overflowed != I::fits(whole)
 }
 
-/// Whether the four overflowing roundings take a number to the multiples of one between -2 and 2 that their definitions
+/// Whether the four overflowing roundings take a number to the multiples of one from -2 to 2 that their definitions
 /// name.
 fn rounds_as_defined<I: Inner, const FRAC: u32>(x: Fixed<I, FRAC>, one: i128) -> bool
     requires { FRAC ≤ I.BITS }

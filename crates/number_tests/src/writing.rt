@@ -1,11 +1,11 @@
-//! Tests of texts in a style, in memory and without it. The shortest texts are in the stored run of `fixed_vectors`.
+//! Tests of texts in a style, with and without allocation. The shortest texts are in the stored run of `fixed_vectors`.
 
 ghost use Rattle.std.specs.Prelude.{◌≤◌, ◌^◌, ◌≤ℤ◌, ◌<ℤ◌, neg_ℤ, pos};
 
 use fixed_write::{Align, NoMemory, Notation, Style, text_in_style, to_text};
 use std::alloc::Global;
 
-/// Whether a style shows `wanted` of a value where the text is written without memory, and nothing after it.
+/// Whether a style shows a value as `wanted` if the text is written without allocation, and writes nothing after it.
 fn writes(bits: i128, frac: u32, style: &Style, wanted: &[u8]) -> bool
     requires low { neg_ℤ (pos (2 ^ 63)) ≤ℤ bits }
     requires high { bits <ℤ pos (2 ^ 64) }
@@ -21,7 +21,7 @@ fn writes(bits: i128, frac: u32, style: &Style, wanted: &[u8]) -> bool
     &room[..end] == wanted && room[end] == b'?'
 }
 
-/// What a style shows of a value: true where it is `wanted`, in memory and without it.
+/// Whether a style shows a value as `wanted`, with and without allocation.
 fn shows(
     alloc: Global,
     bits: i128,
@@ -40,14 +40,14 @@ fn shows(
     }
 }
 
-/// A style of a notation with a precision.
+/// Returns a style of a notation with a precision.
 fn places(notation: Notation, precision: u16) -> Style {
     let mut style = Style::plain(notation);
     style.precision = Some(precision);
     style
 }
 
-/// A decimal style of a width, with a fill and an alignment.
+/// Returns a decimal style of a width, with a fill and an alignment.
 fn field(width: u16, fill: char, align: Align) -> Style {
     let mut style = Style::plain(Notation::Dec);
     style.width = width;
@@ -113,7 +113,7 @@ fn texts_padded_up_to_a_width(rt: HostRuntime) {
     }
 }
 
-/// Each call takes memory once. Where an allocation fails, its call says so and the others are not affected.
+/// Each call allocates once. If an allocation fails, its call says so and the others are not affected.
 #[test]
 fn refused_memory_is_reported_by_its_call_alone(rt: HostRuntime) {
     let rows = [

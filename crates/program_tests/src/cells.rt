@@ -1,4 +1,4 @@
-//! Cells that are made of numbers, and their order.
+//! Cells made from numbers, and their order.
 
 use fixed_bits::Format;
 use fixed_columns::Cell;

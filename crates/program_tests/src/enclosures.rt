@@ -1,4 +1,4 @@
-//! Enclosures of numerals at the ends of ranges and of exponents, and beside a search over all bits.
+//! Enclosures of numerals at the ends of ranges and of exponents, and compared with a search over all bits.
 
 ghost use Rattle.std.specs.Prelude.{◌≡◌, ◌<◌};
 
@@ -26,7 +26,7 @@ fn enclose_over<L: Ledger>(
     }
 }
 
-/// The two ends of a numeral's enclosure; `None` where it is refused, or the format is invalid.
+/// The two ends of a numeral's enclosure; `None` if it is refused, or the format is invalid.
 fn ends_of(
     numeral: &[u8],
     radix: Radix,
@@ -66,7 +66,7 @@ fn exponents_at_the_ends_of_i32_are_enclosed(rt: HostRuntime) {
     assert!(rt; ends_of(b"0e2147483647", Radix::Dec, true, 64, 0) == Some((0, 0)));
 }
 
-/// A number of quarters from -64 to 63 and three quarters, as a numeral of radix 16.
+/// Writes a number of quarters, from -64 to 63 and three quarters, as a numeral of radix 16.
 fn quarters_text(quarters: i32) -> [u8; 6] {
     let size = quarters.unsigned_abs().min(255);
     let sign = if quarters < 0 { b'-' } else { b'+' };
@@ -82,7 +82,7 @@ fn quarters_text(quarters: i32) -> [u8; 6] {
     ]
 }
 
-/// The enclosure of a number of quarters in halves of a range, found by trying each of them.
+/// Finds the enclosure of a number of quarters in halves of a range by trying each of them.
 fn searched(quarters: i32, low: i32, high: i32) -> Option<(i128, i128)> {
     let mut lo = None;
     let mut hi = None;

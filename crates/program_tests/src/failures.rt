@@ -6,7 +6,7 @@ use std::alloc::Global;
 use std::process::Abort;
 use std::test::Fail;
 
-/// A program, an input of it, and what is written of that.
+/// A program, an input, and its output.
 const WHOLE: [(Program, &str, &str); 3] = [
     (Program::Least, "0.5\n3\n", "least U7F1\nU8F0 line 1\n"),
     (Program::Constants, "A = -1 I8F0\n", "A = -0x1 I8F0\n"),
@@ -17,7 +17,7 @@ const WHOLE: [(Program, &str, &str); 3] = [
     ),
 ];
 
-/// With pieces of one byte read call k meets byte k, or the end: nothing is written before the whole input is read.
+/// With pieces of one byte, read call k meets byte k, or the end: nothing is written before the whole input is read.
 #[test]
 fn each_read_of_a_whole_input_fails_in_turn(rt: HostRuntime) -> Result<(), Fail> {
     for (program, input, _) in &WHOLE {
@@ -33,7 +33,7 @@ fn each_read_of_a_whole_input_fails_in_turn(rt: HostRuntime) -> Result<(), Fail>
     Ok(())
 }
 
-/// With pieces of one byte write call k is to write byte k, and those before it are written.
+/// With pieces of one byte, write call k writes byte k, and the bytes before it are written.
 #[test]
 fn each_write_of_a_whole_answer_fails_in_turn(rt: HostRuntime) -> Result<(), Fail> {
     for (program, input, output) in &WHOLE {
@@ -71,8 +71,8 @@ fn a_failing_read_and_a_failing_write_end_a_run_over_lines(rt: HostRuntime) -> R
     Ok(())
 }
 
-/// Asserts that a run where an allocation fails ends as `NoMemory` and has written nothing, and that the output of any
-/// other is whole.
+/// Asserts that a run in which an allocation fails ends as `NoMemory` and has written nothing, and that the output of
+/// any other run is complete.
 fn assert_whole_or_nothing(rt: &impl Abort, alloc: Global, program: Program, case: &MemoryRun) {
     let Ok(input) = case.input.as_bytes().to_vec(alloc) else {
         return;

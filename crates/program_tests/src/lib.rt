@@ -1,6 +1,6 @@
 //! Tests of the libraries of the programs: runs over bytes in memory in which reads, writes and allocations fail, and
-//! what the libraries' numbers are. Runs with worked inputs are tried over the built programs. A crate with tests is
-//! proved twice, with and without them, and so these are in a crate of their own.
+//! the numbers of the libraries. Runs with worked inputs are tried over the built programs. A crate with tests is
+//! proved twice, with and without them, so these are in a separate crate.
 #![tactic(auto)]
 
 #[cfg(test)]

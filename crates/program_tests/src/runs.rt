@@ -1,7 +1,7 @@
-//! What the tests of runs share.
+//! The parts that the tests of runs share.
 
 use fixed_columns::run_columns;
-use fixed_constants::run_forms;
+use fixed_constants::run_constants;
 use fixed_enclose::run_enclose;
 use fixed_least::run_least;
 use fixed_steps::Steps;
@@ -10,7 +10,7 @@ use std::alloc::{AllocError, Global};
 use std::process::Abort;
 use std::sync::ledger::Ledger;
 
-/// What is run.
+/// The program to run.
 #[derive(Clone, Copy)]
 pub enum Program {
     Enclose,
@@ -31,13 +31,13 @@ impl MemoryProgram for Program {
         match self {
             Program::Enclose => run_enclose(alloc, args, source, sink, steps),
             Program::Least => run_least(alloc, args, source, sink, steps),
-            Program::Constants => run_forms(alloc, args, source, sink, steps),
+            Program::Constants => run_constants(alloc, args, source, sink, steps),
             Program::Columns => run_columns(alloc, args, source, sink, steps),
         }
     }
 }
 
-/// Asserts that a run writes what the case says and ends so.
+/// Asserts that a run writes the output of the case and ends with its status.
 pub fn assert_run(
     rt: &impl Abort,
     alloc: Global,

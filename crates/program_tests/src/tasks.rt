@@ -1,4 +1,4 @@
-//! Runs of the tasks of `fixed` in which a read or a write fails, and what no command asks for.
+//! Runs of the tasks of `fixed` in which a read or a write fails, and calls that no command makes.
 
 use fixed_bits::{Format, Policy, ReadMode};
 use fixed_command::{
@@ -31,7 +31,7 @@ impl<'a> MemoryProgram for Case<'a> {
         sink: &mut MemorySink,
         steps: &mut Steps<L>,
     ) -> Status {
-        run_task(alloc, &self.task, &self.watch, source, sink, steps)
+        run_task(alloc, &None, &self.task, &self.watch, source, sink, steps)
     }
 }
 
@@ -109,7 +109,7 @@ fn rust() -> Task<'static> {
     })
 }
 
-/// What is written about a line that is the word 7.
+/// The output for a line that is the word 7.
 const SEVEN: &str = "given     7\ntext      7\nbits      7\nhex       0x07\nvalue     7\n\n";
 
 #[test]

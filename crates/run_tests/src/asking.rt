@@ -1,4 +1,4 @@
-//! What a run over lines asks its source for.
+//! What a run over lines requests from its source.
 
 ghost use Rattle.std.specs.Prelude.{◌≡◌, ◌<◌};
 
@@ -9,8 +9,8 @@ use std::marker::Brand;
 use std::sync::ledger::{Blank, Ledger};
 use std::test::Fail;
 
-/// The furthest byte and the longest buffer that a run with a limit asks for, over so many bytes of which so many move
-/// at a time.
+/// Returns the furthest byte and the longest buffer that a run with a limit requests, over `bytes` bytes of which
+/// `most` move at a time.
 fn asked_by<L: Ledger>(
     alloc: Global,
     limit: u64,
@@ -32,8 +32,8 @@ fn asked_by<L: Ledger>(
     Ok((source.furthest(), source.longest()))
 }
 
-/// However few bytes move at a time, the byte past the limit is the furthest that is asked for, and 4,096 bytes are the
-/// most: over an input that is longer than the limit, one that is as long, and one that ends before it.
+/// However few bytes move at a time, the furthest requested byte is the one past the limit, and the longest request is
+/// 4,096 bytes: over an input that is longer than the limit, one that is as long, and one that ends before it.
 #[test]
 fn no_read_asks_for_too_much(rt: HostRuntime) -> Result<(), Fail> {
     let rows = [

@@ -1,4 +1,4 @@
-//! Whole runs over columns of bytes in memory, by a rule that refuses some fields and leaves others as they are.
+//! Whole runs over columns of bytes in memory, by a rule that refuses some fields and leaves others unchanged.
 
 ghost use Rattle.std.specs.Prelude.{◌≡◌, ◌==◌, ◌<◌, ◌≤◌, get_or};
 
@@ -15,9 +15,9 @@ use std::sync::ledger::{Blank, Ledger};
 use std::test::Fail;
 use text_buffer::TextBuffer;
 
-/// Refuses a field that begins with an x, and leaves one that begins with an = as it is.
+/// Refuses a field that begins with an x, and leaves one that begins with an = unchanged.
 #[derive(Drop)]
-struct NoX;
+pub(crate) struct NoX;
 
 /// The first byte, or 0.
 pub(crate) fn first_of(bytes: &[u8]) -> u8
@@ -54,8 +54,8 @@ impl<L: Ledger> FieldRule<L> for NoX {
     ghost one_law = { λ rule field a b is same. is ∙ sym same };
 }
 
-/// A run: how many lines are passed over, the columns, the name of a new one for the answers, under a header or not,
-/// what is kept of fields, what is read, which read and which write fails, what is written and how it ends.
+/// A run: how many lines are skipped, the columns, the name of a new one for the answers, whether there is a header,
+/// what is kept of fields, the input, which read and which write fails, the output, and how the run ends.
 #[derive(Drop)]
 struct Case {
     skipped: u64,
@@ -73,7 +73,7 @@ struct Case {
     end: ColumnEnd,
 }
 
-/// The columns of a case: one, by its name or by places.
+/// The columns of a case: one, by its name or by numbers.
 fn columns_of(alloc: Global, case: &Case) -> Result<[Column; 1], AllocError> {
     match case.name {
         Some(name) => Ok([Column::Named(String::from_str(alloc, name)?, case.range)]),
@@ -81,7 +81,7 @@ fn columns_of(alloc: Global, case: &Case) -> Result<[Column; 1], AllocError> {
     }
 }
 
-/// Where the answers of a case go.
+/// The destination of a case's answers.
 fn destination_of(case: &Case) -> Destination {
     match case.into {
         Some(name) => {
@@ -93,7 +93,7 @@ fn destination_of(case: &Case) -> Destination {
     }
 }
 
-/// How a run of these bytes ends, and what it writes. The case's own input is left out.
+/// Runs a case over these bytes, in place of its own input. Returns how the run ends and what it writes.
 fn run_case<L: Ledger>(
     alloc: Global,
     case: &Case,
@@ -133,7 +133,7 @@ fn run_case<L: Ledger>(
     Ok((end, sink.written().to_vec(alloc)?))
 }
 
-/// Asserts what a run writes and how it ends, whatever the count of bytes that move at a time.
+/// Asserts what a run writes and how it ends, however many bytes move at a time.
 fn assert_runs(rt: &impl Abort, alloc: Global, cases: &[Case]) -> Result<(), AllocError> {
     for case in cases {
         for most in &[1, 2, 3, 5, 4096] {
@@ -151,7 +151,7 @@ fn assert_runs(rt: &impl Abort, alloc: Global, cases: &[Case]) -> Result<(), All
     Ok(())
 }
 
-/// The end of a text of which so many records were answered, none of them refused.
+/// The end of a run that answered this many records and refused none.
 fn ended(stop: Stop, answered: u64) -> ColumnEnd {
     ColumnEnd {
         stop,
@@ -161,7 +161,7 @@ fn ended(stop: Stop, answered: u64) -> ColumnEnd {
     }
 }
 
-/// The columns at one place.
+/// The range of one column.
 fn one(place: usize) -> Option<Range> {
     Some(Range {
         from: place,
@@ -169,7 +169,7 @@ fn one(place: usize) -> Option<Range> {
     })
 }
 
-/// A run of the second column, without a header, none of whose fields is refused.
+/// A run of the second column, without a header, in which no field is refused.
 fn second(input: &'static [u8], written: &'static [u8], answered: u64) -> Case {
     Case {
         skipped: 0,
@@ -188,7 +188,7 @@ fn second(input: &'static [u8], written: &'static [u8], answered: u64) -> Case {
     }
 }
 
-/// A run of the column that a header names so, or by this place.
+/// A run of the column that a header gives this name, or at this number.
 fn named(
     name: &'static str,
     range: Option<Range>,
@@ -212,7 +212,7 @@ fn stopped(case: Case, stop: Stop) -> Case {
     }
 }
 
-/// A run some of whose fields are refused: how many, and in which record the first is.
+/// A run in which some fields are refused: how many, and in which record the first is.
 fn refusing(case: Case, refused: u64, first: u64) -> Case {
     Case {
         end: ColumnEnd {
@@ -459,13 +459,13 @@ fn a_quote_that_is_never_closed_ends_the_run(rt: HostRuntime) -> Result<(), Fail
     Ok(())
 }
 
-/// What is read where a call fails, a byte at a time.
+/// The input of the runs in which a call fails, a byte at a time.
 const INPUT: &[u8] = b"\xef\xbb\xbfa,1\nb,\"2\"\n";
 
-/// What is written for it.
+/// Their output.
 const OUTPUT: &[u8] = b"\xef\xbb\xbfa,yes\nb,yes\n";
 
-/// Read call k is to read byte k: the answers to the records that ended before it are written.
+/// Read call k reads byte k. The answers to the records that ended before it are written.
 #[test]
 fn each_read_fails_in_turn(rt: HostRuntime) -> Result<(), Fail> {
     for call in 0..14usize {
@@ -487,10 +487,10 @@ fn each_read_fails_in_turn(rt: HostRuntime) -> Result<(), Fail> {
     Ok(())
 }
 
-/// What is written for it with a new column.
+/// Their output with a new column.
 const LONGER_OUTPUT: &[u8] = b"\xef\xbb\xbfa,1,yes\nb,\"2\",yes\n";
 
-/// The case with a new column or without, the write call that fails, and what is written without a failure.
+/// Returns the case with a new column or without, the write call that fails, and the output without a failure.
 fn failing_write(call: usize) -> (Case, usize, &'static [u8]) {
     if call < OUTPUT.len() {
         return (second(INPUT, b"", 0), call, OUTPUT);
@@ -499,7 +499,7 @@ fn failing_write(call: usize) -> (Case, usize, &'static [u8]) {
     (longer, call - OUTPUT.len(), LONGER_OUTPUT)
 }
 
-/// Write call k is to write byte k of the output: those before it are written.
+/// Write call k writes byte k of the output. The bytes before it are written.
 #[test]
 fn each_write_fails_in_turn(rt: HostRuntime) -> Result<(), Fail> {
     for at in 0..36usize {

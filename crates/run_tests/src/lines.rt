@@ -1,5 +1,5 @@
-//! Lines answered by a rule over a source and a sink in memory, some calls of which fail, and what an observer keeps of
-//! lines that are refused.
+//! Lines answered by a rule over a source and a sink in memory, with some failing calls, and what an observer keeps of
+//! refused lines.
 
 use crate::columns::first_of;
 use fixed_steps::Steps;
@@ -88,10 +88,10 @@ impl MemoryProgram for Lines {
 /// Five lines, of which the second and the fourth are refused and the last has no newline.
 const LINES: &str = "ab\nxyz\n\nx\nc";
 
-/// What is written for them.
+/// Their output.
 const REPLIES: &str = "yes\nerror: not so\nyes\nerror: not so\nyes\n";
 
-/// The limit, how many bytes move at a time, which read and which write fails, what is written and how the run ends.
+/// The limit, how many bytes move at a time, which read and which write fails, the output, and how the run ends.
 type Row = (u64, usize, u64, u64, &'static str, Status);
 
 #[test]

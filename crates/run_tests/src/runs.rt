@@ -25,7 +25,7 @@ impl MemoryProgram for Respell {
     }
 }
 
-/// Stops where a run writes something else than it says, or ends otherwise.
+/// Stops if a run writes something else than the case says, or ends otherwise.
 fn expect_end(rt: &impl Abort, alloc: Global, case: &MemoryRun) -> Result<(), AllocError> {
     let input = case.input.as_bytes().to_vec(alloc)?;
     let (status, written) = case.of(alloc, &Respell, input)?;
@@ -38,11 +38,11 @@ fn expect_end(rt: &impl Abort, alloc: Global, case: &MemoryRun) -> Result<(), Al
     Ok(())
 }
 
-/// Two lines that are answered and one that is not.
+/// Two lines that are answered and one that is refused.
 pub const LINES: &str =
     "10 I4F4 I4F4 checked 3.1875\n10 U4F4 U8F0 checked 2.99\n9 U8F0 U8F0 checked 1\n";
 
-/// What is written for none of them, for one, for two and for all.
+/// The output for none of them, for one, for two and for all.
 pub const ANSWERS: [&str; 4] = [
     "",
     "3.2 51 fits\n",
@@ -50,7 +50,7 @@ pub const ANSWERS: [&str; 4] = [
     "3.2 51 fits\n3 3 fits\nerror: bad radix\n",
 ];
 
-/// With pieces of one byte read call k meets byte k, and the lines that ended before it are answered.
+/// With pieces of one byte, read call k meets byte k, and the lines that ended before it are answered.
 #[test]
 fn each_read_fails_in_turn(rt: HostRuntime) -> Result<(), Fail> {
     let mut ended = 0usize;
@@ -72,7 +72,7 @@ fn each_read_fails_in_turn(rt: HostRuntime) -> Result<(), Fail> {
     Ok(())
 }
 
-/// With pieces of one byte write call k is to write byte k of the output, and those before it are written.
+/// With pieces of one byte, write call k writes byte k of the output, and the bytes before it are written.
 #[test]
 fn each_write_fails_in_turn(rt: HostRuntime) -> Result<(), Fail> {
     let alloc = rt.alloc();
@@ -96,8 +96,8 @@ fn each_write_fails_in_turn(rt: HostRuntime) -> Result<(), Fail> {
     Ok(())
 }
 
-/// How many bytes move at a time, which read and which write fail, the first argument and the second, what is written
-/// and how the run ends.
+/// How many bytes move at a time, which read and which write fail, the first argument and the second, the output, and
+/// how the run ends.
 type Row = (
     usize,
     u64,

@@ -14,10 +14,10 @@ use std::process::Abort;
 use std::sync::ledger::Ledger;
 use std::test::Fail;
 
-/// How many calls a test makes of a source or a sink.
+/// How many calls of a source or a sink a test makes.
 const CALLS: u64 = 5;
 
-/// Errors that a reader or a writer may answer for a while and not for good, and one for good.
+/// Two errors that may pass after a while, and one that does not.
 const KINDS: [ErrorKind; 3] = [
     ErrorKind::Interrupted,
     ErrorKind::WouldBlock,
@@ -33,7 +33,7 @@ struct Counted {
 }
 
 impl Counted {
-    /// Counts a call, which moves two bytes at most, or fails.
+    /// Counts a call, which moves at most two bytes, or fails.
     fn call(&mut self, len: usize) -> io::Result<usize> {
         let call = self.calls;
         self.calls = call.saturating_add(1);
@@ -66,7 +66,7 @@ impl Write for Counted {
     }
 }
 
-/// Asserts that each read of a source is one call of its reader, also the one that fails.
+/// Asserts that each read of a source is one call of its reader, including the one that fails.
 fn assert_one_read_each(rt: &impl Abort, failing: u64, kind: ErrorKind) {
     let mut reader = Counted {
         calls: 0,
@@ -84,7 +84,7 @@ fn assert_one_read_each(rt: &impl Abort, failing: u64, kind: ErrorKind) {
     assert_eq!(rt; reader.calls, CALLS);
 }
 
-/// Asserts that each write of a sink is one call of its writer, also the one that fails.
+/// Asserts that each write of a sink is one call of its writer, including the one that fails.
 fn assert_one_write_each(rt: &impl Abort, failing: u64, kind: ErrorKind) {
     let mut writer = Counted {
         calls: 0,
@@ -123,7 +123,7 @@ fn a_failed_device_shows_its_words(rt: HostRuntime) -> Result<(), Fail> {
     Ok(())
 }
 
-/// The program of lines over the adapters. What it wrote is then handed to the sink in memory.
+/// The program of lines over the adapters. Its output then goes to the sink in memory.
 #[derive(Drop)]
 struct Adapted;
 

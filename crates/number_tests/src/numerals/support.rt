@@ -1,4 +1,4 @@
-//! What the tests ask of a text, each over a ledger of its own.
+//! The readings that the tests share, each with its own ledger.
 
 ghost use Rattle.std.specs.Prelude.{◌≡◌, ◌<◌, ◌≤◌, length};
 
@@ -27,7 +27,7 @@ fn shows<L: Ledger>(view: &DigitView, digits: &[u8], steps: &mut Steps<L>) -> bo
     rest.is_empty()
 }
 
-/// What a numeral is to read as.
+/// The parts that a numeral must read as.
 #[derive(Clone, Copy)]
 pub(super) struct Views {
     pub neg: bool,
@@ -208,7 +208,7 @@ pub(super) fn first(text: &str) -> Option<(u64, u64)> {
     first_over::<Brand>(text.as_bytes(), Blank::new(1))
 }
 
-/// Why this many ones, at most 24, are no numeral once another byte takes the place of one of them.
+/// Why this many ones, at most 24, are not a numeral once another byte replaces one of them.
 pub(super) fn kind_of_bad(digits: usize, place: usize, bad: u8) -> Option<ParseErrorKind> {
     let mut text = [b'1'; 24];
     let end = digits.min(24);
@@ -246,8 +246,8 @@ pub(super) fn short_after(radix: Radix, text: &str) -> Option<ShortNumeral> {
     short_over::<Brand>(radix, &bytes[..16 + count], 16, Blank::new(1))
 }
 
-/// The decimal of this many ones, at most 28, once another byte takes the place of one of them. Of more than 16, the
-/// first is a point.
+/// Reads the decimal of this many ones, at most 28, once another byte replaces one of them. If there are more than 16,
+/// the first is a point.
 pub(super) fn short_with(length: usize, place: usize, other: u8) -> Option<ShortNumeral> {
     let mut text = [b'1'; 28];
     if length > 16 {
@@ -272,7 +272,7 @@ fn leading_over<L: Ledger>(radix: Radix, text: &[u8], blank: Blank) -> Result<us
     }
 }
 
-/// How many bytes the numeral at the beginning of a text takes, or why the text is none.
+/// How many bytes the numeral at the start of a text takes, or why there is none.
 pub(super) fn leading(radix: Radix, text: &str) -> Result<usize, ParseErrorKind> {
     leading_over::<Brand>(radix, text.as_bytes(), Blank::new(1))
 }
