@@ -1,24 +1,23 @@
 #!/usr/bin/env python3
-"""An independent writer of the lists of `fixed constants`, of numerals and of named literals, worked out with whole numbers alone.
+"""An independent writer of what `fixed constants` writes, of numerals and of named literals, worked out with whole numbers alone.
 
     arrays.py --compare PROGRAM [--count N] [--seed S]   runs PROGRAM constants on seeded lists, compares what it writes byte
                                                          for byte, and has compilers and simulators read some of it back
 """
-import argparse
-import random
 import re
 import shutil
 import subprocess
 import sys
 import tempfile
 
-from constants import RESERVED, entry_of, line_for, type_shape
-from pack import MODES, POLICIES, clean_for, input_for, lines_of, run, shape_for, word_of
+from constants import RESERVED, answer, entry_of, line_for, type_shape
+from harness import main, run
+from pack import MODES, POLICIES, clean_for, input_for, lines_of, shape_for, word_of
 from reference import WORDS, Refused, image, read_number, shortest
 
 FORMS = ("array-c", "array-rust", "vhdl", "readmemh", "coe", "mif")
 NAMED = FORMS[:3]
-NAMES = ("h", "TAPS", "_", "a" * 64, "a" * 65, "9", "int", "fn", "uint8_t", "x-y", "", "A_H", "signal", "Signal", "a__b", "a_", "_a", "a_b")
+NAMES = ("h", "TAPS", "_", "a" * 58, "a" * 59, "a" * 64, "a" * 65, "9", "int", "fn", "uint8_t", "x-y", "", "A_H", "signal", "Signal", "a__b", "a_", "_a", "a_b")
 # The keywords of VHDL in its editions up to 2019, and what a package of a list stands on.
 VHDL = set(
     """abs access after alias all and architecture array assert assume assume_guarantee attribute begin block body buffer bus case
@@ -94,7 +93,8 @@ def array(form, numbers, shape, name, guard, labels=()):
         lines = "".join(f"    {c_number(bits, shape)}, /* {value} */\n" for _, bits, value in rows)
         before, after = (f"#ifndef {guard}\n#define {guard}\n\n", "\n#endif\n") if guard else ("", "")
         kind = f"{'' if shape[0] else 'u'}int{width}_t"
-        return f"{before}#include <stdint.h>\n\n/* {word} */\nstatic const {kind} {name}[{count}] = {{\n{lines}}};\n{after}"
+        macros = f"#define {name}_COUNT {count}\n#define {name}_FRAC {shape[2]}\n\n"
+        return f"{before}#include <stdint.h>\n\n{macros}/* {word} */\nstatic const {kind} {name}[{name}_COUNT] = {{\n{lines}}};\n{after}"
     if form == "array-rust":
         lines = "".join(f"    {hex(bits)}, // {value}\n" for _, bits, value in rows)
         return f"// {word}\npub static {name}: [{'i' if shape[0] else 'u'}{width}; {count}] = [\n{lines}];\n"
@@ -135,7 +135,8 @@ def write(folder, name, text):
 
 def by_gcc(folder, text, shape, name, count):
     kind, form = ("int64_t", "PRId64") if shape[0] else ("uint64_t", "PRIu64")
-    text += f"#include <inttypes.h>\n#include <stdio.h>\nint main(void) {{\n    for (unsigned i = 0; i < {count}; i++)\n"
+    text += f"#if {name}_COUNT != {count} || {name}_FRAC != {shape[2]}\n#error\n#endif\n"
+    text += f"#include <inttypes.h>\n#include <stdio.h>\nint main(void) {{\n    for (unsigned i = 0; i < {name}_COUNT; i++)\n"
     write(folder, "a.c", text + f'        printf("%" {form} "\\n", ({kind}) {name}[i]);\n    return 0;\n}}\n')
     return map(int, built(folder, [["gcc", "-std=c11", "-pedantic-errors", "-Wall", "-Wextra", "-Werror", "-o", "a", "a.c"], ["./a"]]))
 
@@ -229,7 +230,9 @@ def is_name(form, name, guard):
         return False
     if form == "vhdl":
         return "__" not in f"_{name}_" and name.lower() not in VHDL
-    if form == "array-c" and ("__" in name or re.match("_[A-Z]", name)):
+    if form == "array-c" and ("__" in f"{name}_" or re.match("_[A-Z]", name) or len(name) > 58):
+        return False
+    if form == "array-c" and guard in (f"{name}_COUNT", f"{name}_FRAC"):
         return False
     return name not in RESERVED[form[6:]] and name != guard
 
@@ -249,19 +252,79 @@ def literals_for(pick, is_clean):
     return b"\n".join(lines) + (b"\n" if pick.randrange(2) else b"")
 
 
+def names_of(shape):
+    """Other names of a format than its own: in small letters, in Q notation and in other tools."""
+    signed, width, frac = shape
+    whole, sign = width - frac, "s" if signed else "u"
+    names = [f"{'i' if signed else 'u'}{whole}f{frac}", f"{sign}fixed({whole - 1} downto {-frac})", f"{sign}fix{width}_En{frac}"]
+    for comma in (",", ", "):
+        names.append(f"ap_{'' if signed else 'u'}fixed<{width}{comma}{whole}>")
+        names += (f"{start}{comma.join(map(str, (int(signed), width, frac)))})" for start in (f"fi(_{comma}", "numerictype("))
+    names += [f"{'' if signed else 'U'}Q{whole}.{frac}"] if whole or not signed else []
+    names += [f"Q{frac}"] if signed and whole == 1 else []
+    return [name.encode() for name in names + ([f"{sign}fix{width}"] if frac == 0 else [])]
+
+
+OTHERS = {word_of((signed, width, frac)).encode(): names_of((signed, width, frac))
+          for signed in (True, False) for width in (8, 16, 32, 64) for frac in range(width + 1)}
+OWN = {name: word for word, names in OTHERS.items() for name in names}
+
+
+def renamed(line):
+    """A plain line with its format's own name in the place of another."""
+    fields = line.split(b" ", 3)
+    return b" ".join([*fields[:3], *(OWN.get(word, word) for word in fields[3:])])
+
+
+def plain(data):
+    """A file of named literals with one blank between words, an equals sign being one of them, without comments, and with formats
+    by their own names."""
+    words = ([word for word in re.split(rb"[ \t\r\f]+", re.sub(rb"#.*", b"", line).replace(b"=", b" = ")) if word] for line in lines_of(data))
+    return b"".join(renamed(b" ".join(line)) + b"\n" for line in words)
+
+
+def spread(pick, data):
+    """A file of named literals with other blanks and names of formats, and with comments."""
+    blanks = (b" ", b"  ", b"\t", b" \t ", b"\r", b"\f")
+    lines = []
+    for line in data.split(b"\n"):
+        if pick.randrange(3) == 0:
+            line = re.sub(rb"[IU][0-9]+F[0-9]+$", lambda found: pick.choice(OTHERS.get(found[0], [found[0]])), line)
+        line = re.sub(rb" ", lambda _: pick.choice(blanks), line)
+        line = re.sub(rb"\s*=\s*", b"=", line) if pick.randrange(4) == 0 else line
+        before, after = (pick.choice((b"", b"", *blanks)) for _ in range(2))
+        lines.append(before + line + after + pick.choice((b"", b"", b"# 1", b"#=", b"\r")))
+    return b"\n".join(lines)
+
+
+def sources_once(program, pick, _is_read):
+    """A run of constants over named literals in their own form, as C or as Rust, and a message where it differs."""
+    form = pick.choice(("", "c", "rust"))
+    guard = "A_H" if form == "c" and pick.random() < 0.3 else ""
+    data = literals_for(pick, pick.random() < 0.3)
+    data = spread(pick, data) if pick.random() < 0.7 else data
+    words = ["constants", *([form] if form else []), *(["--guard", guard] if guard else [])]
+    ran, (wanted, status) = run(program, words, data), answer(plain(data), form, guard)
+    shown = f"{' '.join(words)}, {data[:300]!r}: status {ran.returncode}, {ran.stdout[:60]!r}"
+    if status == 0:
+        return None if (ran.returncode, ran.stdout) == (0, wanted.encode()) else f"{shown}, not {wanted[:200]!r}"
+    return refusal_of(ran, shown, Refused(*wanted.removeprefix("error: ").rstrip("\n").split(": ", 1)))
+
+
 def literals_once(program, pick, is_read):
     """A run of constants over named literals, and a message where it differs."""
     form = pick.choice(FORMS)
     name = pick.choice((*NAMES, None)) if pick.random() < 0.2 else "h" if form in NAMED else None
     guard = "A_H" if form == "array-c" and pick.random() < 0.3 else ""
     data = literals_for(pick, is_read or pick.random() < 0.3)
+    data = spread(pick, data) if pick.random() < 0.5 else data
     words = ["constants", form, *([] if name is None else [f"--name={name}"]), *(["--guard", guard] if guard else [])]
     ran = run(program, words, data)
     shown = f"{' '.join(words)}, {data[:300]!r}: status {ran.returncode}, {ran.stdout[:60]!r}"
     if not is_name(form, name, guard):
         return None if (ran.returncode, ran.stdout) == (2, b"") else f"{shown}, not status 2"
     try:
-        entries = literals_of(data)
+        entries = literals_of(plain(data))
     except Refused as why:
         return refusal_of(ran, shown, why)
     labels, numbers, shape = [entry[0] for entry in entries], [entry[3] for entry in entries], entries[0][2]
@@ -295,8 +358,11 @@ def once(program, pick, is_read):
     radix = 10 if is_clean else radix
     words = ["constants", form, "--numerals", word_of(shape), "-r", str(radix), "-p", policy, "-m", mode]
     words += [] if name is None else [f"--name={name}"]
-    ran = run(program, [*words, *(["--guard", guard] if guard else [])], data)
-    shown = f"{' '.join(words)} {guard}, {data[:60]!r}: status {ran.returncode}, {ran.stdout[:60]!r}"
+    mark = pick.choice(".,;")
+    words += [] if mark == "." and pick.randrange(2) else ["--decimal", mark]
+    written = data.translate(bytes.maketrans(f".{mark}".encode(), f"{mark}.".encode()))
+    ran = run(program, [*words, *(["--guard", guard] if guard else [])], written)
+    shown = f"{' '.join(words)} {guard}, {written[:60]!r}: status {ran.returncode}, {ran.stdout[:60]!r}"
     if not is_name(form, name, guard):
         return None if (ran.returncode, ran.stdout) == (2, b"") else f"{shown}, not status 2"
     try:
@@ -306,27 +372,14 @@ def once(program, pick, is_read):
     return difference(ran, shown, form, array(form, numbers, shape, name, guard), (shape, name, numbers), is_read)
 
 
-def compare(program, count, seed):
-    pick = random.Random(seed)
+def compare(program, pick, given, tally):
     for tool, _ in READERS.values():
         if tool and shutil.which(tool) is None:
             print(f"{tool} is not here, and so it read no list")
-    tries = [(once, literals_once)[i % 2] for i in range(count)]
-    wrong = [message for i, each in enumerate(tries) if (message := each(program, pick, i % 20 < 2))]
-    for message in wrong[:10]:
-        print(message)
-    print(f"{count} lists, {len(wrong)} differ")
-    return 1 if wrong else 0
-
-
-def main():
-    words = argparse.ArgumentParser(description=__doc__.split("\n", maxsplit=1)[0])
-    words.add_argument("--compare", metavar="PROGRAM", required=True)
-    words.add_argument("--count", type=int, default=400)
-    words.add_argument("--seed", type=int, default=1)
-    given = words.parse_args()
-    return compare(given.compare, given.count, given.seed)
+    for i in range(given.count):
+        wrong = (once, literals_once, sources_once)[i % 3](program, pick, i % 20 < 2)
+        tally.check(wrong is None, wrong)
 
 
 if __name__ == "__main__":
-    sys.exit(main())
+    sys.exit(main(__doc__, compare, "lists compared", 400))

@@ -6,12 +6,10 @@ It follows the rules in man/columns_tool.1 and shares no code with the program: 
     columns.py < column            writes the column in order, or its first fault
     columns.py --compare PROGRAM   makes seeded columns, hands them to PROGRAM one by one, and compares
 """
-import argparse
-import random
-import subprocess
 import sys
 from fractions import Fraction
 
+from harness import main, run
 from reference import WIDTHS, WORDS, Refused, digits_for, ends, format_of, read_number, shortest
 
 LONGEST = 1_048_576
@@ -124,34 +122,16 @@ def column_for(pick):
     return b"\n".join(lines) + (b"\n" if pick.randrange(2) else b"")
 
 
-def compare(program, count, seed):
-    pick = random.Random(seed)
-    wrong, kept = 0, 0
-    for _ in range(count):
+def compare(program, pick, given, tally):
+    kept = 0
+    for _ in range(given.count):
         data = column_for(pick)
         wanted, status = answer(data)
-        ran = subprocess.run([program], input=data, stdout=subprocess.PIPE, stderr=subprocess.DEVNULL, check=False)
+        ran = run(program, [], data)
         kept += status == 0
-        if (ran.stdout.decode(), ran.returncode) != (wanted, status):
-            wrong += 1
-            if wrong <= 10:
-                print(f"{data!r}: {ran.stdout!r}, status {ran.returncode}, not {wanted!r}, status {status}")
-    print(f"{count} columns compared, {kept} of them without a fault, {wrong} differ")
-    return 1 if wrong else 0
-
-
-def main():
-    words = argparse.ArgumentParser(description=__doc__.split("\n", maxsplit=1)[0])
-    words.add_argument("--compare", metavar="PROGRAM")
-    words.add_argument("--count", type=int, default=2000)
-    words.add_argument("--seed", type=int, default=1)
-    given = words.parse_args()
-    if given.compare:
-        return compare(given.compare, given.count, given.seed)
-    written, status = answer(sys.stdin.buffer.read())
-    sys.stdout.write(written)
-    return status
+        tally.same((ran.stdout.decode(), ran.returncode), (wanted, status), data)
+    print(f"{kept} columns without a fault")
 
 
 if __name__ == "__main__":
-    sys.exit(main())
+    sys.exit(main(__doc__, compare, "columns compared", 2000, lambda given: answer(sys.stdin.buffer.read())))

@@ -1,19 +1,20 @@
 #!/usr/bin/env python3
 """Compares every program with its reference, on seeded inputs.
 
-    compare.py [--count N] [--seed S] [--built build|out]
+    compare.py [--count N] [--seed S] [--built FOLDER]
 
 Each reference is a file of this folder that works the answers out with whole numbers alone. A program that is not built is
-named and passed over. The programs are taken from build/, where `make build` leaves them, or from crates/NAME/out/, where
-the gate does.
+named and passed over. The programs are taken from build/, where `make build` leaves them, from another folder, or for `out` from
+crates/NAME/out/, where the gate leaves them.
 """
 import argparse
 import os
 import subprocess
 import sys
 
+from harness import program
+
 HERE = os.path.dirname(os.path.abspath(__file__))
-TOP = os.path.dirname(HERE)
 
 # A reference, the program that it answers for, and how many inputs it makes for each 1,000 lines that are asked for.
 PAIRS = (
@@ -28,6 +29,7 @@ PAIRS = (
     ("show.py", "fixed", 100),
     ("convert.py", "fixed", 100),
     ("column.py", "fixed", 50),
+    ("json_lines.py", "fixed", 100),
     ("amounts.py", "fixed", 5000),
     ("pack.py", "fixed", 3),
     ("arrays.py", "fixed", 3),
@@ -36,17 +38,11 @@ PAIRS = (
 )
 
 
-def program(name, built):
-    """The path of a built program, or None."""
-    path = f"{TOP}/build/{name}" if built == "build" else f"{TOP}/crates/{name}/out/{name}"
-    return path if os.path.isfile(path) else None
-
-
 def main():
     words = argparse.ArgumentParser(description=__doc__.split("\n", maxsplit=1)[0])
     words.add_argument("--count", type=int, default=200_000)
     words.add_argument("--seed", type=int, default=1)
-    words.add_argument("--built", choices=("build", "out"), default="build")
+    words.add_argument("--built", default="build", metavar="FOLDER")
     given = words.parse_args()
     status = 0
     for reference, name, share in PAIRS:

@@ -8,12 +8,10 @@ without a bound, and its text is built digit by digit from the bits.
                                         first fault
     constants.py --compare PROGRAM      makes seeded files, hands them to PROGRAM one by one in each form, and compares
 """
-import argparse
-import random
 import re
-import subprocess
 import sys
 
+from harness import main, run
 from reference import DIGITS, WIDTHS, WORDS, Refused, digits_for, ends, format_of, rounded, separators, shortest
 
 LONGEST = 1_048_576
@@ -269,47 +267,23 @@ def file_for(pick):
     return b"\n".join(lines) + (b"\n" if pick.randrange(2) else b"")
 
 
-def compare(program, count, seed):
-    pick = random.Random(seed)
-    wrong, kept = 0, 0
-    for at in range(count):
+def compare(program, pick, given, tally):
+    kept = 0
+    for at in range(given.count):
         data = file_for(pick)
-        words = (("c",), ("c", "GUARD_H"), ("rust",))[at % 3]
-        ran = subprocess.run([program, *words], input=data, stdout=subprocess.PIPE, stderr=subprocess.DEVNULL, check=False)
-        if (ran.stdout.decode(), ran.returncode) != answer(data, *words):
-            wrong += 1
-            if wrong <= 10:
-                print(f"{words}, {data!r}: {ran.stdout!r}, status {ran.returncode}, not {answer(data, *words)}")
-        wanted, status = answer(data)
-        ran = subprocess.run([program], input=data, stdout=subprocess.PIPE, stderr=subprocess.DEVNULL, check=False)
+        for words in ((("c",), ("c", "GUARD_H"), ("rust",))[at % 3], ()):
+            ran, (wanted, status) = run(program, words, data), answer(data, *words)
+            tally.same((ran.stdout.decode(), ran.returncode), (wanted, status), (words, data))
         kept += status == 0
-        if (ran.stdout.decode(), ran.returncode) != (wanted, status):
-            wrong += 1
-            if wrong <= 10:
-                print(f"{data!r}: {ran.stdout!r}, status {ran.returncode}, not {wanted!r}, status {status}")
-        elif status == 0 and wanted:
-            again = subprocess.run([program], input=ran.stdout, stdout=subprocess.PIPE, stderr=subprocess.DEVNULL, check=False)
-            if again.stdout != ran.stdout:
-                wrong += 1
-                print(f"{ran.stdout!r} is written anew as {again.stdout!r}")
-    print(f"{count} files compared, {kept} of them without a fault, {wrong} differ")
-    return 1 if wrong else 0
+        if status == 0 and wanted:
+            tally.same(run(program, [], ran.stdout).stdout, ran.stdout, "what is written, written anew")
+    print(f"{kept} files without a fault")
 
 
-def main():
-    words = argparse.ArgumentParser(description=__doc__.split("\n", maxsplit=1)[0])
+def arguments(words):
     words.add_argument("form", nargs="?", default="", choices=("", "c", "rust"))
     words.add_argument("guard", nargs="?", default="")
-    words.add_argument("--compare", metavar="PROGRAM")
-    words.add_argument("--count", type=int, default=2000)
-    words.add_argument("--seed", type=int, default=1)
-    given = words.parse_args()
-    if given.compare:
-        return compare(given.compare, given.count, given.seed)
-    written, status = answer(sys.stdin.buffer.read(), given.form, given.guard)
-    sys.stdout.write(written)
-    return status
 
 
 if __name__ == "__main__":
-    sys.exit(main())
+    sys.exit(main(__doc__, compare, "answers about files compared", 2000, lambda given: answer(sys.stdin.buffer.read(), given.form, given.guard), arguments))

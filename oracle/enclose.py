@@ -7,11 +7,9 @@ the upper end the least that is not below it: each is read in its own mode, and 
     enclose.py < lines            writes the answers
     enclose.py --compare PROGRAM  makes seeded lines, hands them to PROGRAM, and compares
 """
-import argparse
-import random
-import subprocess
 import sys
 
+from harness import by_line, each_line, main
 from reference import LONGEST, RADIX, WIDTHS, WORDS, Refused, ends, format_of, numeral_for, read_number, shortest
 
 
@@ -75,41 +73,10 @@ def line_for(pick):
     return b" ".join(fields)
 
 
-def compare(program, count, seed):
-    pick = random.Random(seed)
-    lines = [line_for(pick) for _ in range(count)]
-    lines = [line for line in lines if line and b"\n" not in line]
-    ran = subprocess.run([program], input=b"\n".join(lines) + b"\n", stdout=subprocess.PIPE, check=False)
-    found = ran.stdout.decode().split("\n")[:-1]
-    wrong = 0
-    for line, got in zip(lines, found):
-        wanted = answer(line)
-        if got != wanted:
-            wrong += 1
-            if wrong <= 10:
-                print(f"{line!r}: {got!r}, not {wanted!r}")
-    if len(found) != len(lines):
-        wrong += 1
-        print(f"{len(found)} answers to {len(lines)} lines")
-    print(f"{len(lines)} lines compared, {wrong} differ")
-    return 1 if wrong else 0
-
-
-def main():
-    words = argparse.ArgumentParser(description=__doc__.split("\n", maxsplit=1)[0])
-    words.add_argument("--compare", metavar="PROGRAM")
-    words.add_argument("--count", type=int, default=20_000)
-    words.add_argument("--seed", type=int, default=1)
-    given = words.parse_args()
-    if given.compare:
-        return compare(given.compare, given.count, given.seed)
-    lines = sys.stdin.buffer.read().split(b"\n")
-    if not lines[-1]:
-        lines.pop()
-    for line in lines:
-        print(answer(line))
-    return 0
+def compare(program, pick, given, tally):
+    lines = [line_for(pick) for _ in range(given.count)]
+    each_line(tally, program, [], [line for line in lines if line and b"\n" not in line], answer)
 
 
 if __name__ == "__main__":
-    sys.exit(main())
+    sys.exit(main(__doc__, compare, "lines compared", 20_000, lambda given: by_line(answer)))

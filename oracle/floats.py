@@ -1,21 +1,21 @@
 #!/usr/bin/env python3
 """Compares the calls of the library for C that read floats, give doubles, or print and compare rows with exact fractions.
 
-    floats.py LIBRARY [--shapes N] [--rows N] [--seed N]
+    floats.py --compare LIBRARY [--shapes N] [--count N] [--seed S]
 
 LIBRARY is the path of libfixed.so. Every exponent of binary64 and binary32 is read with the least, the greatest, a half and random
 fractions and both signs, in N formats for each mode and policy, once by rows and some of it by the single call. A float's value is
 that of Python's `struct` and `fractions`, and the double of a number is what Python's division of whole numbers gives, which rounds to
 the nearest, ties to even.
 """
-import argparse
 import ctypes
-import random
+import itertools
 import struct
 import sys
 from ctypes import POINTER, byref, c_char_p, c_double, c_float, c_int32, c_int64, c_size_t, c_uint32
 from fractions import Fraction
 
+from harness import main
 from library import (BAD_FORMAT, BAD_MODE, BAD_POLICY, BAD_ROWS, MODE_NAMES, NO_ROOM, POLICIES, Format, Number, answered, bits_for,
                      brought, compare, is_format, number_of, of, print_places, shape_for, wanted)
 from reference import rounded
@@ -91,23 +91,19 @@ def fits(found, right, none, item):
         none if one else what for one, what in right]
 
 
-def try_reading(pick, rows, name, shapes):
-    """How many floats were read, and how many of the calls differ."""
+def try_reading(pick, rows, name, shapes, tally):
+    """Compares what each float of a layout is read as."""
     bits = list(floats_of(pick, name))
     values, packed, count = [value_of(name, each) for each in bits], struct.pack(f"<{len(bits)}{LAYOUTS[name][0][1]}", *bits), len(bits)
-    tried = wrong = 0
-    for mode in range(len(MODE_NAMES) + 1):
-        for policy in range(len(POLICIES) + 1):
-            for _ in range(shapes if mode < len(MODE_NAMES) and policy < len(POLICIES) else 1):
-                shape, out = shape_for(pick), (Number * count)()
-                right = [answered(read, value, shape, policy, mode) for value in values]
-                found = rows.call(f"fixed_read_{name}s", count, out, packed, count, of(shape), policy, mode, out, count)
-                tried += count
-                if not fits(found, right, (0, 0), lambda number: (number.bits, number.overflowed)):
-                    wrong += 1
-                    print("differs:", name, shape, policy, mode)
-                wrong += name == "double" and singles_differ(pick, rows, bits, right, shape, policy, mode)
-    return tried, wrong
+    for mode, policy in itertools.product(range(len(MODE_NAMES) + 1), range(len(POLICIES) + 1)):
+        for _ in range(shapes if mode < len(MODE_NAMES) and policy < len(POLICIES) else 1):
+            shape, out = shape_for(pick), (Number * count)()
+            right = [answered(read, value, shape, policy, mode) for value in values]
+            found = rows.call(f"fixed_read_{name}s", count, out, packed, count, of(shape), policy, mode, out, count)
+            is_right = fits(found, right, (0, 0), lambda number: (number.bits, number.overflowed))
+            tally.check(is_right, f"differs: {(name, shape, policy, mode)}", count)
+            if name == "double":
+                tally.check(not singles_differ(pick, rows, bits, right, shape, policy, mode), f"differs alone: {(shape, policy, mode)}", 0)
 
 
 def singles_differ(pick, rows, bits, right, shape, policy, mode):
@@ -176,25 +172,18 @@ def try_sizes(pick, rows):
     return (count,), all(one[:3] == (BAD_ROWS, [0] * count, 77) for one in found) and list(reals) == [9.0] * count
 
 
-def main():
-    words = argparse.ArgumentParser(description=__doc__.split("\n", maxsplit=1)[0])
-    words.add_argument("library")
-    words.add_argument("--shapes", type=int, default=3)
-    words.add_argument("--rows", type=int, default=20_000)
-    words.add_argument("--seed", type=int, default=1)
-    asked = words.parse_args()
-    pick, rows, tried, wrong = random.Random(asked.seed), Rows(asked.library), 0, 0
+def compare_calls(path, pick, given, tally):
+    rows = Rows(path)
     for name in LAYOUTS:
-        more, differ = try_reading(pick, rows, name, asked.shapes)
-        tried, wrong = tried + more, wrong + differ
-    for _ in range(asked.rows):
-        given, agree = pick.choice((try_doubles, try_orders, try_places, try_sizes))(pick, rows)
-        if not agree:
-            wrong += 1
-            print("differs:", given)
-    print(f"{tried} floats and {asked.rows} calls over rows compared, {wrong} differ")
-    return 1 if wrong else 0
+        try_reading(pick, rows, name, given.shapes, tally)
+    for _ in range(given.count):
+        called, agree = pick.choice((try_doubles, try_orders, try_places, try_sizes))(pick, rows)
+        tally.check(agree, f"differs: {called}")
+
+
+def arguments(words):
+    words.add_argument("--shapes", type=int, default=3)
 
 
 if __name__ == "__main__":
-    sys.exit(main())
+    sys.exit(main(__doc__, compare_calls, "floats and calls over rows compared", 20_000, arguments=arguments))

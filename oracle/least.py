@@ -6,12 +6,10 @@ Each numeral is a fraction, and each of the 248 formats is tried on it.
     least.py [RADIX] < numerals     writes the answer
     least.py --compare PROGRAM      makes seeded inputs, hands them to PROGRAM, and compares
 """
-import argparse
-import random
-import subprocess
 import sys
 from fractions import Fraction
 
+from harness import main, run
 from reference import RADIX, WIDTHS, WORDS, Refused, ends, parts_of
 
 MOST = 1_048_576
@@ -100,39 +98,23 @@ def input_for(pick, radix):
     return data + pick.choice((b"", b"\n")) if lines else b""
 
 
-def compare(program, count, seed):
-    pick = random.Random(seed)
-    wrong = 0
-    for _ in range(count):
+def compare(program, pick, given, tally):
+    for _ in range(given.count):
         radix = pick.choice((2, 8, 10, 10, 10, 16))
         words = [str(radix)] if radix != 10 or pick.randrange(2) else []
         data = input_for(pick, radix)
-        if len(data) > MOST:
-            continue
-        ran = subprocess.run([program, *words], input=data, stdout=subprocess.PIPE, check=False)
-        wanted = answer(data, radix)
-        got = ran.stdout.decode(), ran.returncode
-        if got != wanted:
-            wrong += 1
-            if wrong <= 5:
-                print(f"{words} {data!r}: {got!r}, not {wanted!r}")
-    print(f"{count} inputs compared, {wrong} differ")
-    return 1 if wrong else 0
+        if len(data) <= MOST:
+            ran = run(program, words, data)
+            tally.same((ran.stdout.decode(), ran.returncode), answer(data, radix), (words, data))
 
 
-def main():
-    words = argparse.ArgumentParser(description=__doc__.split("\n", maxsplit=1)[0])
+def arguments(words):
     words.add_argument("radix", nargs="?", default="10", choices=("2", "8", "10", "16"))
-    words.add_argument("--compare", metavar="PROGRAM")
-    words.add_argument("--count", type=int, default=500)
-    words.add_argument("--seed", type=int, default=1)
-    given = words.parse_args()
-    if given.compare:
-        return compare(given.compare, given.count, given.seed)
-    text, status = answer(sys.stdin.buffer.read(), RADIX[given.radix.encode()])
-    sys.stdout.write(text)
-    return status
+
+
+def answer_alone(given):
+    return answer(sys.stdin.buffer.read(), RADIX[given.radix.encode()])
 
 
 if __name__ == "__main__":
-    sys.exit(main())
+    sys.exit(main(__doc__, compare, "inputs compared", 500, answer_alone, arguments))

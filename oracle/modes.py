@@ -7,14 +7,13 @@ digit beside them, with 60 digits, into formats of any width. It shares no code 
 
     modes.py --compare PROGRAM [--count N] [--seed S]   runs PROGRAM convert, and compares; N ties
 """
-import argparse
 import decimal
 import itertools
 import math
-import random
-import subprocess
 import sys
 from fractions import Fraction
+
+from harness import main, run
 
 MODES = ("nearest", "ties-away", "ties-zero", "ties-up", "ties-down", "floor", "ceil", "zero", "away")
 POLICIES = ("checked", "saturating", "wrapping")
@@ -56,19 +55,10 @@ def formats(widths, fracs=None):
     return [(signed, width, frac) for width in widths for signed in (False, True) for frac in fracs or range(width + 1)]
 
 
-def answers(program, words, lines):
-    """What `fixed convert` writes for these lines."""
-    ran = subprocess.run([program, "convert", *words], input="".join(f"{line}\n" for line in lines).encode(), stdout=subprocess.PIPE, check=False)
-    return ran.stdout.decode().splitlines()
-
-
-def differing(program, words, lines, wanted):
-    """How many answers differ; the first is shown."""
-    found = answers(program, words, lines)
-    wrong = [(line, got, want) for line, got, want in zip(lines, found, wanted) if got != want]
-    if wrong or len(found) != len(wanted):
-        print(f"convert {' '.join(words)}: {len(found)} answers, {len(wrong)} differ, the first: {wrong[:1]}")
-    return len(wrong) + abs(len(found) - len(wanted))
+def converted(tally, program, words, lines, wanted):
+    """Compares what `fixed convert` writes for these lines."""
+    found = run(program, ["convert", *words], "".join(f"{line}\n" for line in lines).encode()).stdout.decode().splitlines()
+    tally.all_same(found, wanted, [f"convert {' '.join(words)} of {line}" for line in lines])
 
 
 def numerals():
@@ -91,18 +81,15 @@ def image(policy, low, high, number):
     return str(max(low, min(high, number)) if policy == "saturating" else (number - low) % (high - low + 1) + low)
 
 
-def read_all(program):
+def read_all(tally, program):
     """Every numeral into every format of widths 1 to 6 and fractions of 0 to 12 bits, in every mode, under every policy."""
     texts, values = zip(*numerals())
-    wrong, count = 0, 0
     for frac, mode in itertools.product(range(13), MODES):
         numbers = [whole(value * (1 << frac), mode) for value in values]
         for (signed, width, _), policy in itertools.product(formats(range(1, 7), [frac]), POLICIES):
             low, high = ends(signed, width)
             words = [word_of(signed, width, frac), "--mode", mode, "--policy", policy, "--print", "bits"]
-            wrong += differing(program, words, texts, [image(policy, low, high, number) for number in numbers])
-            count += len(texts)
-    return count, wrong
+            converted(tally, program, words, texts, [image(policy, low, high, number) for number in numbers])
 
 
 def placed(bits, frac, places, mode):
@@ -117,20 +104,15 @@ def placed(bits, frac, places, mode):
         return ("-" if bits < 0 else "") + (text[:-places] + "." + text[-places:] if places else text)
 
 
-def print_all(program):
+def print_all(tally, program):
     """Every bit pattern of widths 1 to 10, to 0, 1 and 2 places, in every mode."""
-    wrong, count = 0, 0
     for signed, width, frac in formats(range(1, 11)):
         low, high = ends(signed, width)
         lines = list(range(low, high + 1))
-        for mode in MODES:
-            for places in range(3):
-                wanted = [placed(bits, frac, places, mode) for bits in lines]
-                # a word without a sign is read in two's complement
-                words = [word_of(signed, width, frac), "--from", "bits", "--places", str(places), "--places-mode", mode]
-                wrong += differing(program, words, [bits % (1 << width) for bits in lines], wanted)
-                count += len(lines)
-    return count, wrong
+        for mode, places in itertools.product(MODES, range(3)):
+            # A word without a sign is read in two's complement.
+            words = [word_of(signed, width, frac), "--from", "bits", "--places", str(places), "--places-mode", mode]
+            converted(tally, program, words, [bits % (1 << width) for bits in lines], [placed(bits, frac, places, mode) for bits in lines])
 
 
 def ties(pick, count):
@@ -147,30 +129,21 @@ def ties(pick, count):
     return (signed, width, frac), texts
 
 
-def tie_all(program, pick, runs):
-    wrong, count = 0, 0
+def tie_all(tally, program, pick, runs):
     for _ in range(runs):
         (signed, width, frac), texts = ties(pick, TIES)
         low, high = ends(signed, width)
         for mode in MODES:
             wanted = [str(max(low, min(high, whole(Fraction(text) * (1 << frac), mode)))) for text in texts]
             words = [word_of(signed, width, frac), "--mode", mode, "--policy", "saturating", "--print", "bits"]
-            wrong += differing(program, words, texts, wanted)
-            count += len(texts)
-    return count, wrong
+            converted(tally, program, words, texts, wanted)
 
 
-def main():
-    words = argparse.ArgumentParser(description=__doc__.split("\n", maxsplit=1)[0])
-    words.add_argument("--compare", metavar="PROGRAM", required=True)
-    words.add_argument("--count", type=int, default=20)
-    words.add_argument("--seed", type=int, default=1)
-    given = words.parse_args()
-    found = [read_all(given.compare), print_all(given.compare), tie_all(given.compare, random.Random(given.seed), given.count)]
-    wrong = sum(it for _, it in found)
-    print(f"{sum(count for count, _ in found)} roundings compared, {wrong} differ")
-    return 1 if wrong else 0
+def compare(program, pick, given, tally):
+    read_all(tally, program)
+    print_all(tally, program)
+    tie_all(tally, program, pick, given.count)
 
 
 if __name__ == "__main__":
-    sys.exit(main())
+    sys.exit(main(__doc__, compare, "roundings compared", 20))

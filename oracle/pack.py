@@ -4,19 +4,17 @@
 It works with whole numbers alone and shares no code with the program. A float's value is that of Python's `struct` and `fractions`.
 
     pack.py --compare PROGRAM [--count N] [--seed S]   runs PROGRAM on seeded lines, words and floats, and compares
-    pack.py --compare PROGRAM --floats N [--seed S]    on N floats: every exponent, extreme and random fractions, both signs;
+    with --floats N also                               on N floats: every exponent, extreme and random fractions, both signs;
                                                       and on N words of every width to floats and back
 """
-import argparse
-import random
 import struct
-import subprocess
 import sys
 from fractions import Fraction
 
-from convert import moved
+from convert import laid_out, layout_for, moved, numeral_of
+from harness import main, run
 from reference import WORDS, Refused, image, numeral_for, read_number, rounded, shortest
-from show import WORD_REFUSALS
+from show import WORD_REFUSALS, word_for, word_number
 
 # How many lines or words a run has at most.
 LINES = 400
@@ -38,15 +36,18 @@ def lines_of(data):
     return lines if lines[-1] else lines[:-1]
 
 
-def packed(data, radix, shape, policy, mode, endian):
-    """The words of the lines before the first that is refused, and that line's number and cause, or None."""
+def packed(data, read, causes, shape, endian, layout=(False, False, "")):
+    """The words of the lines before the first that is refused, and that line's number and cause, or None. `read` gives the bits of a
+    line's numeral or word; a skipped line has no word."""
     words = bytearray()
     for place, line in enumerate(lines_of(data), 1):
-        numeral = line[:-1] if line.endswith(b"\r") else line
+        text = numeral_of(line, layout)
+        if text is None:
+            continue
         try:
-            bits = image(policy, shape, read_number(numeral, radix, shape[2], mode))[0]
+            bits = read(text)
         except Refused as why:
-            return bytes(words), (place, WORDS[str(why)])
+            return bytes(words), (place, causes[str(why)])
         words += (bits % (1 << shape[1])).to_bytes(length_of(shape), endian)
     return bytes(words), None
 
@@ -96,10 +97,6 @@ def word_of(shape):
     return f"{'I' if shape[0] else 'U'}{shape[1] - shape[2]}F{shape[2]}"
 
 
-def run(program, words, data):
-    return subprocess.run([program, *words], input=data, capture_output=True, check=False)
-
-
 def input_for(pick, radix, shape):
     """Lines of numerals, rarely one that is none, with a newline at the end or without."""
     lines = [numeral_for(pick, radix, shape) for _ in range(pick.randrange(LINES))]
@@ -114,14 +111,30 @@ def clean_for(pick, shape):
     return "".join(shortest(number, shape[2]) + "\n" for number in numbers).encode()
 
 
+def packing_for(pick, radix, shape):
+    """How lines are packed, their bits or the numbers of their numerals: how they are read, the causes of a refusal, and the words."""
+    if pick.random() < 0.3:
+        return lambda text: word_number(text, shape, radix), WORD_REFUSALS, ["--from", "bits"]
+    policy, mode = pick.choice(POLICIES), pick.choice(MODES)
+    return lambda text: image(policy.encode(), shape, read_number(text, radix, shape[2], mode))[0], WORDS, ["-p", policy, "-m", mode]
+
+
 def pack_once(program, pick):
     """A run of pack, and a message where it differs."""
-    radix, shape, policy, mode = pick.choice((2, 8, 10, 10, 16)), shape_for(pick), pick.choice(POLICIES), pick.choice(MODES)
-    endian = pick.choice(("little", "big"))
-    data = clean_for(pick, shape) if pick.random() < 0.3 else input_for(pick, radix, shape)
-    words = ["pack", word_of(shape), "-r", str(radix), "-p", policy, "-m", mode, "--endian", endian]
+    radix, shape, endian = pick.choice((2, 8, 10, 10, 16)), shape_for(pick), pick.choice(("little", "big"))
+    read, causes, named = packing_for(pick, radix, shape)
+    layout, laid = layout_for(pick) if pick.random() < 0.5 else ((False, False, ""), [])
+    if causes is WORD_REFUSALS:
+        low, count = (1 << shape[1] - 1 if shape[0] else 0), pick.randrange(LINES)
+        lines = [str(pick.getrandbits(shape[1]) - low).encode() if radix == 10 else word_for(pick, shape) for _ in range(count)]
+        data = b"".join(line + b"\n" for line in lines)
+    else:
+        data = clean_for(pick, shape) if pick.random() < 0.3 else input_for(pick, radix, shape)
+    if laid:
+        data = b"\n".join(laid_out(pick, line) for line in data.split(b"\n"))
+    words = ["pack", word_of(shape), "-r", str(radix), *named, *laid, "--endian", endian]
     ran = run(program, words, data)
-    wanted, refused = packed(data, radix, shape, policy.encode(), mode, endian)
+    wanted, refused = packed(data, read, causes, shape, endian, layout)
     if (ran.stdout, ran.returncode) != (wanted, 1 if refused else 0):
         return f"{' '.join(words)}, {data[:80]!r}: {ran.stdout[:40]!r}, status {ran.returncode}, not {wanted[:40]!r}"
     if refused and not (f"line {refused[0]}, ".encode() in ran.stderr and refused[1].encode() in ran.stderr):
@@ -290,63 +303,40 @@ def float_back_once(program, pick):
     return words_differ(program, shape, layout, endian, words, pick.randrange(length_of(shape)) if pick.random() < 0.3 else 0)
 
 
-def compare_words(program, count, seed):
+def compare_words(program, pick, count, tally):
     """Words of every width to floats and back: the ends of the range, ties of 53 and 24 bits, and random ones."""
-    pick, wrong, tried = random.Random(seed), [], 0
     runs = [(width, layout) for width in range(1, 65) for layout in LAYOUTS]
     for width, layout in runs:
         ends = [0, 1, (1 << width) - 1, 1 << (width - 1), (1 << (width - 1)) - 1]
         ties = [((pick.getrandbits(width) | 1 << (width - 1)) >> low | 1) << low & ((1 << width) - 1) for low in range(width)]
         words = ends + ties + [pick.getrandbits(pick.randrange(1, width + 1)) for _ in range(-(-count // len(runs)))]
-        tried += len(words)
         shape = (pick.random() < 0.5, width, pick.randrange(width + 1))
-        wrong.append(words_differ(program, shape, layout, pick.choice(("little", "big")), words, 0))
-    wrong = [message for message in wrong if message]
-    for message in wrong[:10]:
-        print(message)
-    print(f"{tried} words to floats in {len(runs)} runs, {len(wrong)} differ")
-    return 1 if wrong else 0
+        wrong = words_differ(program, shape, layout, pick.choice(("little", "big")), words, 0)
+        tally.check(wrong is None, wrong, len(words))
 
 
-def compare_floats(program, count, seed):
+def compare_floats(program, pick, count, tally):
     """Every exponent of both layouts in turn, in each mode, and in each policy that refuses no number."""
-    pick, wrong, tried = random.Random(seed), [], 0
     runs = [(layout, policy, mode) for layout in LAYOUTS for policy in POLICIES[1:] for mode in ALL_MODES]
     for layout, policy, mode in runs:
         finite = (1 << LAYOUTS[layout][2]) - 1
         bits = [float_for(pick, layout, i % finite) for i in range(-(-count // len(runs)))]
-        tried += len(bits)
-        wrong.append(floats_differ(program, pick, lambda shape, bits=bits: bits, layout, policy, mode, 0))
-    wrong = [message for message in wrong if message]
-    for message in wrong[:10]:
-        print(message)
-    print(f"{tried} floats packed in {len(runs)} runs, {len(wrong)} differ")
-    return 1 if wrong else 0
+        wrong = floats_differ(program, pick, lambda shape, bits=bits: bits, layout, policy, mode, 0)
+        tally.check(wrong is None, wrong, len(bits))
 
 
-def compare(program, count, seed):
-    pick = random.Random(seed)
-    wrong = []
-    for i in range(count):
-        wrong.append((pack_once, unpack_once, repack_once, back_once, floats_once, float_back_once)[i % 6](program, pick))
-    wrong = [message for message in wrong if message]
-    for message in wrong[:10]:
-        print(message)
-    print(f"{count} inputs packed, unpacked or repacked, {len(wrong)} differ")
-    return 1 if wrong else 0
-
-
-def main():
-    words = argparse.ArgumentParser(description=__doc__.split("\n", maxsplit=1)[0])
-    words.add_argument("--compare", metavar="PROGRAM", required=True)
-    words.add_argument("--count", type=int, default=1000)
-    words.add_argument("--floats", type=int, default=0)
-    words.add_argument("--seed", type=int, default=1)
-    given = words.parse_args()
+def compare(program, pick, given, tally):
+    for i in range(given.count):
+        wrong = (pack_once, unpack_once, repack_once, back_once, floats_once, float_back_once)[i % 6](program, pick)
+        tally.check(wrong is None, wrong)
     if given.floats:
-        return compare_floats(given.compare, given.floats, given.seed) or compare_words(given.compare, given.floats, given.seed)
-    return compare(given.compare, given.count, given.seed)
+        compare_floats(program, pick, given.floats, tally)
+        compare_words(program, pick, given.floats, tally)
+
+
+def arguments(words):
+    words.add_argument("--floats", type=int, default=0)
 
 
 if __name__ == "__main__":
-    sys.exit(main())
+    sys.exit(main(__doc__, compare, "inputs packed, unpacked or repacked", 1000, arguments=arguments))

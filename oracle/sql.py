@@ -1,16 +1,14 @@
 #!/usr/bin/env python3
 """Compares the functions of SQLite's extension with whole-number arithmetic, on seeded arguments.
 
-    sql.py EXTENSION [--count N] [--seed N]
+    sql.py --compare EXTENSION [--count N] [--seed S]
 
 EXTENSION is examples/sqlite/fixed_sqlite.c, compiled. All calls are made in one run of sqlite3, a statement each, with the references of
 library.py; a call that has to be refused is one that gives an error.
 """
-import argparse
-import random
-import subprocess
 import sys
 
+from harness import main, run
 from library import (POLICIES, answered, bits_for, compare, convert_mode, print_bits, print_places, read_text,
                      round_bits, shape_for, word_of_format)
 from reference import numeral_for
@@ -67,23 +65,14 @@ def shown(right):
     return found.decode() if isinstance(found, bytes) else str(found[0] if isinstance(found, tuple) else found)
 
 
-def main():
-    words = argparse.ArgumentParser(description=__doc__.split("\n", maxsplit=1)[0])
-    words.add_argument("extension")
-    words.add_argument("--count", type=int, default=20_000)
-    words.add_argument("--seed", type=int, default=1)
-    asked = words.parse_args()
-    pick = random.Random(asked.seed)
-    calls = [some(pick) for _ in range(asked.count)]
-    script = f".load {asked.extension}\n" + "".join(f"SELECT {i}, {call};\n" for i, (call, _) in enumerate(calls))
-    ran = subprocess.run(["sqlite3", "-batch", ":memory:"], input=script.encode(), stdout=subprocess.PIPE, stderr=subprocess.DEVNULL, check=False)
+def compare_calls(extension, pick, given, tally):
+    calls = [some(pick) for _ in range(given.count)]
+    script = f".load {extension}\n" + "".join(f"SELECT {i}, {call};\n" for i, (call, _) in enumerate(calls))
+    ran = run("sqlite3", ["-batch", ":memory:"], script.encode(), timeout=None)
     found = dict(line.split("|") for line in ran.stdout.decode().splitlines())
-    wrong = [(call, right, found.get(str(i))) for i, (call, right) in enumerate(calls) if found.get(str(i)) != shown(right)]
-    for it in wrong[:10]:
-        print("differs:", it)
-    print(f"{asked.count} calls in SQL compared, {len(wrong)} differ")
-    return 1 if wrong else 0
+    for i, (call, right) in enumerate(calls):
+        tally.same(found.get(str(i)), shown(right), call)
 
 
 if __name__ == "__main__":
-    sys.exit(main())
+    sys.exit(main(__doc__, compare_calls, "calls in SQL compared", 20_000))

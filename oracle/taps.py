@@ -6,14 +6,15 @@
 A float times a power of two, its rint and the distance to it are exact, so that numpy's answers are as well. The lists are
 given by their exact decimals and as numpy.savetxt writes them.
 """
-import argparse
+import importlib.util
 import math
 import os
-import random
 import subprocess
 import sys
 from decimal import Decimal
 from fractions import Fraction
+
+from harness import main, run
 
 # The names of the formats, how many bits they have, how many of these are of the fraction, and their words for numpy.
 FORMATS = (("Q15", 16, 15, "<i2"), ("Q31", 32, 31, "<i4"))
@@ -43,12 +44,6 @@ def list_for(pick):
     return sine(pick.choice((16, 63, 256, 1000)), pick.choice((1.0, 0.999, pick.random())), pick.choice((0.0, pick.random())))
 
 
-def answers_of(program, words, text):
-    """What a command writes for a text, and its status."""
-    ran = subprocess.run([program, *words], input=text.encode(), capture_output=True, check=False)
-    return ran.stdout, ran.returncode
-
-
 def finest(numpy, values, width):
     """The greatest fraction length of a signed format of this width in which all values are in range, and the greatest error."""
     for length in range(width, -1, -1):
@@ -59,58 +54,40 @@ def finest(numpy, values, width):
     return None
 
 
-def faults(numpy, program, values):
-    """What the program answers otherwise than numpy, in words."""
+def compare_list(numpy, program, values, tally):
+    """Compares what is converted, packed and fitted of a list."""
     values = numpy.array(values)
-    exact = "".join(f"{Decimal(float(value)):f}\n" for value in values)
-    saved = "".join(f"{value:.18e}\n" for value in values)
-    found = []
+    exact = "".join(f"{Decimal(float(value)):f}\n" for value in values).encode()
+    saved = "".join(f"{value:.18e}\n" for value in values).encode()
     for name, width, places, kind in FORMATS:
         wanted = numpy.clip(numpy.rint(values * 2.0**places), -(2 ** (width - 1)), 2 ** (width - 1) - 1).astype(kind)
         for text in (exact, saved):
-            bits = answers_of(program, ["convert", name, "--policy", "saturating", "--print", "bits"], text)
-            if bits != ("".join(f"{word}\n" for word in wanted.tolist()).encode(), 0):
-                found.append(f"convert {name}")
-            if answers_of(program, ["pack", name, "--policy", "saturating"], text) != (wanted.tobytes(), 0):
-                found.append(f"pack {name}")
+            ran = run(program, ["convert", name, "--policy", "saturating", "--print", "bits"], text)
+            tally.same((ran.stdout, ran.returncode), ("".join(f"{word}\n" for word in wanted.tolist()).encode(), 0), f"convert {name}")
+            ran = run(program, ["pack", name, "--policy", "saturating"], text)
+            tally.same((ran.stdout, ran.returncode), (wanted.tobytes(), 0), f"pack {name}")
         length, error = finest(numpy, values, width)
-        answer, status = answers_of(program, ["fit", "--width", str(width), "--signed"], exact)
-        form, _, size = answer.decode().split() if status == 0 else (None, None, "0")
-        if form != f"I{width - length}F{length}" or Fraction(size) != error:
-            found.append(f"fit --width {width}: {answer!r}, not {length} and {error}")
-    return found
+        ran = run(program, ["fit", "--width", str(width), "--signed"], exact)
+        form, _, size = ran.stdout.decode().split() if ran.returncode == 0 else (None, None, "0")
+        tally.same((form, Fraction(size)), (f"I{width - length}F{length}", error), f"fit --width {width}")
 
 
-def compare(numpy, program, count, seed):
-    """Compares seeded lists, and says how many differ."""
-    pick = random.Random(seed)
-    wrong = 0
-    for place in range(count):
-        found = faults(numpy, program, list_for(pick))
-        wrong += bool(found)
-        if found and wrong <= 5:
-            print(f"list {place}: {'; '.join(found)}")
-    print(f"{count} lists compared with numpy, {wrong} differ")
-    return 1 if wrong else 0
+def compare(program, pick, given, tally):
+    import numpy
+    for _ in range(given.count):
+        compare_list(numpy, program, list_for(pick), tally)
 
 
-def main():
-    words = argparse.ArgumentParser(description=__doc__.split("\n", maxsplit=1)[0])
-    words.add_argument("--compare", metavar="PROGRAM", required=True)
-    words.add_argument("--count", type=int, default=100)
-    words.add_argument("--seed", type=int, default=1)
-    given = words.parse_args()
-    try:
-        import numpy
-    except ModuleNotFoundError:
-        # Debian's interpreter has Debian's numpy.
-        other = "/usr/bin/python3"
-        if os.path.exists(other) and not os.path.samefile(other, sys.executable):
-            return subprocess.run([other, *sys.argv], check=False).returncode
-        print("not compared with numpy, which is not found")
-        return 0
-    return compare(numpy, given.compare, given.count, given.seed)
+def with_numpy():
+    """Compares under an interpreter that finds numpy: this one, or Debian's, which has Debian's numpy."""
+    if importlib.util.find_spec("numpy"):
+        return main(__doc__, compare, "answers to lists compared with numpy", 100)
+    other = "/usr/bin/python3"
+    if os.path.exists(other) and not os.path.samefile(other, sys.executable):
+        return subprocess.run([other, *sys.argv], check=False).returncode
+    print("not compared with numpy, which is not found")
+    return 0
 
 
 if __name__ == "__main__":
-    sys.exit(main())
+    sys.exit(with_numpy())

@@ -1,17 +1,17 @@
 #!/usr/bin/env python3
 """Compares the crate for Rust and the header for C++ with whole-number arithmetic, by the seeded calls of library.py.
 
-    wrappers.py DRIVER [--count N] [--seed N]
+    wrappers.py --compare DRIVER [--count N] [--seed S]
 
 DRIVER is oracle/calls.rs or oracle/calls.cpp, compiled: it reads a call a line, makes it through the crate or the header, and writes
 its code and what it returned. An argument that the types of the crate or the header rule out is refused by the driver with its code.
 """
-import argparse
+import collections
 import ctypes
-import random
 import subprocess
 import sys
 
+from harness import main
 from library import BAD_ROWS, NO_ROOM, Enclosure, Format, Style, one
 
 # The calls that the crate and the header have. Those of others in library.py are counted and passed over.
@@ -144,30 +144,20 @@ class Driver:
         return 0
 
 
-def main():
-    words = argparse.ArgumentParser(description=__doc__.split("\n", maxsplit=1)[0])
-    words.add_argument("driver")
-    words.add_argument("--count", type=int, default=100_000)
-    words.add_argument("--seed", type=int, default=1)
-    asked = words.parse_args()
-    pick, driver, wrong, missing = random.Random(asked.seed), Driver(asked.driver), 0, {}
-    for _ in range(asked.count):
+def compare(path, pick, given, tally):
+    driver, missing = Driver(path), collections.Counter()
+    for _ in range(given.count):
         try:
-            given, agree = one(pick, driver)
+            called, agree = one(pick, driver)
         except Missing as name:
-            missing[str(name)] = missing.get(str(name), 0) + 1
+            missing[str(name)] += 1
             continue
-        if not agree:
-            wrong += 1
-            if wrong <= 10:
-                print("differs:", given)
+        tally.check(agree, f"differs: {called}")
     driver.process.stdin.close()
-    status = driver.process.wait()
-    compared = asked.count - sum(missing.values())
-    left_out = f"; not made: {', '.join(f'{count} of {name}' for name, count in sorted(missing.items()))}" if missing else ""
-    print(f"{compared} calls compared, {wrong} differ{left_out}")
-    return 1 if wrong or status else 0
+    tally.check(driver.process.wait() == 0, f"the driver ended with status {driver.process.returncode}", 0)
+    if missing:
+        print("not made:", ", ".join(f"{count} of {name}" for name, count in sorted(missing.items())))
 
 
 if __name__ == "__main__":
-    sys.exit(main())
+    sys.exit(main(__doc__, compare, "calls compared", 100_000))
