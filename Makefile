@@ -82,7 +82,7 @@ test:
 
 # Those in a crate's wrong-bodies/: a change of its public clauses, or of a body that one of them edits, calls for them.
 wrong-bodies:
-	@python3 .ci/edits.py
+	@python3 .ci/rules.py edits
 	@python3 .ci/wrong_bodies.py try $(CRATE)
 
 # Every wrong body, with what refused it in the last make test or make wrong-bodies that tried it as it is now.

@@ -24,7 +24,7 @@ sys.path.insert(0, TOP)
 sys.path.insert(0, f"{TOP}/oracle")
 
 from apidoc.markdown import slug  # noqa: E402
-from compare import program  # noqa: E402
+from harness import program  # noqa: E402
 from pages import PAGES, examples_of  # noqa: E402
 from python import found_with, linked  # noqa: E402
 
@@ -34,7 +34,7 @@ PROGRAMS = ("fixed", "fixed_tool", "enclose_tool", "least_tool", "constants_tool
 MOST_WORDS_OF_README = 1000
 # What is made by building, and so is named and not there.
 MADE = ("build/", "crates/*/out", "crates/NAME", "DIR/")
-FOLDERS = r"apidoc|crates|docs|bench|oracle|scale|examples|include|man|packaging|completion|python|rust|\.ci"
+FOLDERS = r"apidoc|crates|docs|bench|oracle|scale|examples|include|man|packaging|completion|python|rust|cases|\.ci"
 
 
 def text_of(path):
@@ -92,7 +92,8 @@ def is_installed(tool):
 
 class Room:
     """A folder in which commands are run: the programs that are built are on the path, and the files that documents
-    name are there: sensor.csv, tariff.csv, numerals.txt, and meter.csv whose third column makes the lines of `lines`."""
+    name are there: sensor.csv, tariff.csv, numerals.txt, log.jsonl, and meter.csv whose third column makes the lines of
+    `lines`."""
 
     def __init__(self, folder, built):
         self.folder, self.missing = folder, set()
@@ -111,7 +112,8 @@ class Room:
         with open(f"{folder}/meter.csv", "w", encoding="ascii") as file:
             file.writelines(f"{hour},a,{numeral}\n" for hour, numeral in enumerate(numerals))
         self.lines = "".join(f"10 U16F16 I8F8 saturating {numeral}\n" for numeral in numerals)
-        for name, text in (("lines", self.lines), ("numerals.txt", "0.5\n3.14159\n")):
+        log = '{"place":"hall","celsius":21.31415926}\n'
+        for name, text in (("lines", self.lines), ("numerals.txt", "0.5\n3.14159\n"), ("log.jsonl", log)):
             with open(f"{folder}/{name}", "w", encoding="ascii") as file:
                 file.write(text)
 

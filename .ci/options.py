@@ -23,6 +23,7 @@ OPERANDS = {
     "TARGET": "@formats @files",
     "FILE": "@files",
     "COLUMNS": "@columns",
+    "PATH": "@any",
     "RADIX": "2 8 10 16 @files",
     "LIMIT": "limit @files",
     "NUMERAL": "@any",
@@ -341,8 +342,19 @@ def options(table):
         few = f"Cm {' | '.join(row.choices)}" if 0 < len(row.choices) < 7 else f"Ar {value}" if value else ""
         yield f".It {letter}Fl -{row.name} {'Op ' if row.value.startswith('[') else ''}{few}".rstrip()
         yield from prose(f"{row.help}.")
-        yield f".Pq Cm {' , '.join(commands)}"
+        yield from in_parentheses(commands)
     yield ".El"
+
+
+def in_parentheses(commands, most=10):
+    """The names of commands in parentheses, as many in a line as go there."""
+    if len(commands) <= most:
+        yield f".Pq Cm {' , '.join(commands)}"
+        return
+    yield ".Po"
+    for i in range(0, len(commands), most):
+        yield f".Cm {' , '.join(commands[i:i + most])}{' ,' if i + most < len(commands) else ''}"
+    yield ".Pc"
 
 
 def modes(table):

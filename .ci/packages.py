@@ -20,7 +20,7 @@ import tempfile
 TOP = os.path.dirname(os.path.dirname(os.path.abspath(__file__)))
 sys.path.insert(0, f"{TOP}/oracle")
 
-from compare import program  # noqa: E402
+from harness import program  # noqa: E402
 from python import found_with  # noqa: E402
 
 PROGRAMS = ("fixed_tool", "enclose_tool", "least_tool", "constants_tool", "columns_tool", "fixed")

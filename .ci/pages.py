@@ -1,13 +1,12 @@
 #!/usr/bin/env python3
 """Checks the manual pages, the completions and the help of `fixed`.
 
-    pages.py [--built build|out]
+    pages.py [--built FOLDER]
 
 Pages: mandoc and groff find nothing to warn of, and each example answers as the page says. Completions: each shell takes its
 own, and offers the names in a header. (What they offer of commands and options is printed: .ci/options.py.) Help: at most 80
 columns, with an example for each command. What is not installed or not built is named and passed over.
 """
-import argparse
 import glob
 import os
 import re
@@ -19,7 +18,7 @@ import tempfile
 TOP = os.path.dirname(os.path.dirname(os.path.abspath(__file__)))
 sys.path.insert(0, f"{TOP}/oracle")
 
-from compare import program  # noqa: E402
+from harness import built_option, program  # noqa: E402
 
 PAGES = sorted(glob.glob(f"{TOP}/man/*.[13]"))
 # A reference to another page is found only where that page is installed; .Os says the version.
@@ -142,10 +141,8 @@ def helps(built):
 
 
 def main():
-    words = argparse.ArgumentParser(description=__doc__.split("\n", maxsplit=1)[0])
-    words.add_argument("--built", choices=("build", "out"), default="build")
-    given = words.parse_args()
-    wrong = [*linted(), *examples(given.built), *taken_by_shells(), *headers(), *helps(given.built)]
+    built = built_option(__doc__)
+    wrong = [*linted(), *examples(built), *taken_by_shells(), *headers(), *helps(built)]
     for it in wrong:
         print(it)
     print(f"manual pages, completions and help: {len(wrong)} faults")

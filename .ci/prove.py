@@ -191,11 +191,13 @@ class Bench:
                 self.store.take(f"{self.into}/{self.crates[name].made}", *self.kept(name))
 
     def adopt(self):
-        """Keeps what an `rt ci` that passed left in out/: statements, programs, and that the tests and the runs passed."""
+        """Keeps what an `rt ci` that passed left in out/: statements, programs, and that the tests and the runs passed.
+
+        Statements fit only those that they were proved over, so all are of this run, also where the store had some."""
         for name, crate in self.crates.items():
             rlib = f"{crate.folder}/out/rlib/{name}.rlib"
             if os.path.isdir(rlib) and not crate.made:
-                self.store.put(rlib, *self.kept(name))
+                self.store.put(rlib, *self.kept(name), anew=True)
             if crate.is_program:
                 self.store.put(f"{crate.folder}/out/{name}", self.keys[name], "made", GATE_CPU)
             self.store.note(self.run_key(name), "passed", by="rt ci", crate=name, toolchain=toolchain())

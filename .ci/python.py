@@ -48,7 +48,7 @@ def run(words, what, **how):
 
 
 def has(python, *modules):
-    """Whether an interpreter finds all of these modules."""
+    """Whether an interpreter finds all of these modules. A folder of the same name, as build/, is none."""
     words = [python, "-c", "import " + ", ".join(modules)]
     return subprocess.run(words, stdout=subprocess.DEVNULL, stderr=subprocess.DEVNULL, check=False).returncode == 0
 
@@ -149,7 +149,7 @@ def check_module(python, env, folder):
 
 def check_wheel(python, library, folder):
     """The wheel, installed in an environment of its own."""
-    if not has(python, "build", "setuptools", "wheel", "venv", "ensurepip"):
+    if not has(python, "build.__main__", "setuptools", "wheel", "venv", "ensurepip"):
         print("build, setuptools, wheel or venv is not on this machine, and so no wheel was made")
         return
     with open(f"{TOP}/packaging/VERSION", encoding="ascii") as version:

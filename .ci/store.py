@@ -43,10 +43,10 @@ class Store:
         if os.path.isdir(self.path(key)):
             os.utime(self.path(key))
 
-    def put(self, source, key, *parts):
-        """Keeps a file or a folder under a key, unless it is there. It appears at once and whole."""
+    def put(self, source, key, *parts, anew=False):
+        """Keeps a file or a folder under a key, unless it is there; with `anew`, in the place of what is there. It appears whole."""
         to = self.path(key, *parts)
-        if os.path.exists(to):
+        if os.path.exists(to) and not anew:
             return
         os.makedirs(os.path.dirname(to), exist_ok=True)
         with tempfile.TemporaryDirectory(prefix=".part-", dir=self.folder) as room:
@@ -55,6 +55,8 @@ class Store:
             else:
                 shutil.copy2(source, f"{room}/it")
             try:
+                if anew and os.path.exists(to):
+                    os.rename(to, f"{room}/old")
                 os.rename(f"{room}/it", to)
             except OSError:
                 if not os.path.exists(to):

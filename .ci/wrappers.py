@@ -33,6 +33,8 @@ METER = """     0.5        0.5       0.50
 REFUSED = (
     ('constexpr auto it = "I16.16"_format;', 'constexpr auto it = "I16F16"_format;'),
     ('constexpr auto it = "I65F0"_format;', 'constexpr auto it = "I64F0"_format;'),
+    ('constexpr auto it = "ap_fixed<16>"_format;', 'constexpr auto it = "ap_fixed<16,-9>"_format;'),
+    ('constexpr auto it = "sfix0_En15"_format;', 'constexpr auto it = "sfix16_En15"_format;'),
     ('auto it = read("1", q15, mode::floor);', 'auto it = read("1", q15, radix::decimal, policy::checked, mode::floor);'),
     ('auto it = read("1", q15, radix::hexadecimal, mode::floor);', 'auto it = read("1", q15, radix::hexadecimal, policy::wrapping);'),
     ('auto it = read("1", q15, 16);', 'auto it = read("1", q15, radix{16});'),
@@ -125,7 +127,7 @@ def check_standard(folder, library, compiler, standard, count):
     sanitized = standard == STANDARDS[0] and is_sanitized([*words, f"{TOP}/oracle/calls.cpp", library], out)
     if not sanitized:
         run([*words, f"{TOP}/oracle/calls.cpp", library, "-o", out])
-    answer = run([sys.executable, f"{TOP}/oracle/wrappers.py", out, "--count", str(count)]).strip()
+    answer = run([sys.executable, f"{TOP}/oracle/wrappers.py", "--compare", out, "--count", str(count)]).strip()
     run([*words, *(SANITIZED if sanitized else []), f"{TOP}/oracle/header.cpp", library, "-o", f"{out}_header"])
     run([f"{out}_header"])
     print(f"{compiler}, C++{standard}{', with sanitizers' if sanitized else ''}: {answer}", flush=True)
@@ -174,7 +176,7 @@ def check_rust(folder, lib, calls):
             run(["cargo", name, *words], **crate)
             print(f"cargo {name}: nothing to say", flush=True)
     run(["cargo", "build", "--offline", "--release", "--example", "calls"], **crate)
-    print("Rust:", run([sys.executable, f"{TOP}/oracle/wrappers.py", f"{folder}/target/release/examples/calls", "--count", str(calls)]), end="", flush=True)
+    print("Rust:", run([sys.executable, f"{TOP}/oracle/wrappers.py", "--compare", f"{folder}/target/release/examples/calls", "--count", str(calls)]), end="", flush=True)
     for how in ("LIBFIXED_DIR", "pkg-config"):
         check_rust_example(folder, lib, how, env)
     env = {name: it for name, it in env.items() if name != "LIBFIXED_DIR"} | {"PKG_CONFIG": "false", "CARGO_TARGET_DIR": f"{folder}/none"}
@@ -222,7 +224,7 @@ def check_sqlite(folder, library, calls):
     nothing = sql(out, "SELECT count(fixed_bits(NULL, 'Q15')), count(fixed_text(1, NULL)), count(fixed_compare(1, 'Q15', NULL, 'Q15'));")
     wanted("SQLite, NULL", nothing, "0|0|0\n")
     print(f"SQLite: {len(WRONG)} wrong calls refused with their causes", flush=True)
-    print("SQLite:", run([sys.executable, f"{TOP}/oracle/sql.py", out, "--count", str(calls // 5)]), end="", flush=True)
+    print("SQLite:", run([sys.executable, f"{TOP}/oracle/sql.py", "--compare", out, "--count", str(calls // 5)]), end="", flush=True)
 
 
 def sql(extension, text):

@@ -20,7 +20,7 @@ import subprocess
 import sys
 import tempfile
 
-from edits import parts
+from rules import parts
 
 TOP = os.path.dirname(os.path.dirname(os.path.abspath(__file__)))
 KEPT = f"{TOP}/build/logs/wrong-bodies"
@@ -83,7 +83,8 @@ def function_at(path, line):
 
 def edited(crate, edit):
     """The path of the file that an edit changes, and the first text that it replaces."""
-    name, pairs, _ = parts(edit)
+    with open(edit, encoding="utf-8") as file:
+        name, pairs, _ = parts(file.read())
     return f"{TOP}/crates/{crate}/{name}", pairs[0][0] if pairs else ""
 
 

@@ -52,7 +52,7 @@ def converting(programs, inputs, tries):
 def amounts(programs, inputs, tries):
     """Lines a second of `fixed convert` into cents, and to two places through the format that holds most of the same numerals."""
     fixed, plain = programs.built("fixed"), inputs.path("plain", "--lines", str(LINES))
-    commands = [[fixed, "convert", "D2"], [fixed, "convert", "I32F32", "--places", "2"]]
+    commands = [[fixed, "convert", "D2"], [fixed, "convert", "D2", "--mode", "ties-away"], [fixed, "convert", "I32F32", "--places", "2"]]
     took = in_turn([(command, plain) for command in commands], tries)
     rows = []
     for command, seconds in zip(commands, took):
@@ -60,7 +60,7 @@ def amounts(programs, inputs, tries):
         if VALGRIND:
             more, fewer = (inputs.path("plain", "--lines", str(count)) for count in (MORE, FEWER))
             counted = f"{(instructions(command, more) - instructions(command, fewer)) / (MORE - FEWER):.0f}"
-        rows.append([" ".join(["fixed", *command[1:]]), f"{LINES / seconds / 1e6:.2f}", f"{took[1] / seconds:.0%}", counted])
+        rows.append([" ".join(["fixed", *command[1:]]), f"{LINES / seconds / 1e6:.2f}", f"{took[-1] / seconds:.0%}", counted])
     table(rows, ["numerals to cents", "M lines/s", "of the last", "instructions a line"])
 
 
@@ -128,6 +128,34 @@ def floats(programs, inputs, tries):
     table(rows, ["raw doubles to words, and back", "MB/s of user time", f"of {FLOAT_MEGABYTES}", "instructions a double"])
 
 
+def paths(programs, inputs, tries):
+    """Processor time and instructions a line of further commands and options, beside plain `fixed convert`."""
+    fixed = programs.built("fixed")
+
+    def plain(count):
+        return inputs.path("plain", "--lines", str(count))
+
+    def halves(count):
+        return inputs.of(f"halves-{count}", "".join(f"{at % 100}.5\n" for at in range(count)))
+
+    def hexadecimal(count):
+        pick = random.Random(2)
+        return inputs.of(f"hexadecimal-{count}", "".join(f"{pick.randrange(4096):x}.{pick.randrange(4096):x}\n" for _ in range(count)))
+
+    asked = [(["convert", "U16F16", *more], plain) for more in ([], *(["--print", part] for part in ("bits", "hex", "value")), ["--places", "2"], ["--report"])]
+    asked += [(["convert", "U16F16", "--radix", "16"], hexadecimal), (["show", "U16F16", "--file", "-"], plain),
+              (["fit", "--error", "0.001"], plain), (["fit", "--error", "0.25"], halves)]
+    took = in_turn([([fixed, *words], given(LINES // 10)) for words, given in asked], tries)
+    rows = []
+    for (words, given), seconds in zip(asked, took):
+        counted = ""
+        if VALGRIND:
+            more, fewer = 2_500, 500
+            counted = f"{(instructions([fixed, *words], given(more)) - instructions([fixed, *words], given(fewer))) / (more - fewer):.0f}"
+        rows.append([" ".join(["fixed", *words]), f"{seconds / (LINES // 10) * 1e9:.0f}", f"{seconds / took[0]:.1f}", counted])
+    table(rows, ["further paths", "ns a line", "of convert's", "instructions a line"])
+
+
 def memory(programs, inputs):
     """Peak memory of each command that streams, over many short lines and over some that are as long as a line may be."""
     short = inputs.path("plain", "--lines", str(LINES))
@@ -173,5 +201,6 @@ def measure(programs, inputs, tries):
     amounts(programs, inputs, tries)
     packing(programs, inputs, tries)
     floats(programs, inputs, tries)
+    paths(programs, inputs, tries)
     memory(programs, inputs)
     starting(programs)

@@ -1,6 +1,8 @@
 /* Times the library for C, as bench/calls.c times C's own reading and printing.
  *
  *     bench_library read TIMES FORMAT     fixed_read_text for each line of standard input, a decimal numeral
+ *     bench_library literal TIMES FORMAT  fixed_read_literal for each
+ *     bench_library scan TIMES FORMAT     fixed_scan_text for each, whatever the format
  *     bench_library write TIMES FORMAT    fixed_print_bits for each line's bits
  *
  * FORMAT is a word such as I16F16. The lines are read once; the calls are made TIMES times over; the sum of what they answered is
@@ -29,7 +31,7 @@ int main(int count, char **words)
     uint64_t sum = 0;
     unsigned whole, frac;
     if (count < 4 || sscanf(words[3] + 1, "%uF%u", &whole, &frac) != 2) {
-        fputs("usage: bench_library read|write TIMES FORMAT\n", stderr);
+        fputs("usage: bench_library read|literal|scan|write TIMES FORMAT\n", stderr);
         return 2;
     }
     long times = strtol(words[2], NULL, 10);
@@ -48,6 +50,13 @@ int main(int count, char **words)
                 fixed_number number = {0, 0};
                 sum += fixed_read_text(lines[at], lengths[at], 10, format, FIXED_WRAPPING, FIXED_NEAREST, &number);
                 sum += (uint64_t)number.bits;
+            } else if (words[1][0] == 'l') {
+                fixed_number number = {0, 0};
+                sum += fixed_read_literal(lines[at], lengths[at], format, FIXED_WRAPPING, &number);
+                sum += (uint64_t)number.bits;
+            } else if (words[1][0] == 's') {
+                size_t taken = 0;
+                sum += fixed_scan_text(lines[at], lengths[at], 10, &taken) + taken;
             } else {
                 char text[FIXED_TEXT_SIZE];
                 size_t len = 0;
