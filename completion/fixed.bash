@@ -1,40 +1,44 @@
 # bash completion for fixed
 # printed by make options: completions
-_fixed_commands='convert column bits show format modes lines enclose least fit pack unpack repack constants sort'
+_fixed_commands='convert column json bits show format modes lines enclose least fit pack unpack repack constants sort'
 _fixed_formats='I16F16 U16F16 I8F8 U8F8 I32F32 U32F32 I1F15 I1F31 I4F4 U0F8'
 # The options of a command.
 _fixed_options() {
   case $1 in
-    convert) echo '--from --radix --policy --mode --target-mode --print --places --places-mode --trim --skip-blank --comments --words --separators --refused --keep --report --output' ;;
-    column) echo '--from --radix --policy --mode --target-mode --print --places --places-mode --delimiter --all --header --skip --trim --decimal --decimal-out --thousands --thousands-anywhere --empty --into --keep --report' ;;
-    bits) echo '--radix --field --swap --json --file --output' ;;
-    show) echo '--radix --policy --mode --json --file --output' ;;
-    format) echo '--json' ;;
-    lines | sort) echo '--limit' ;;
-    fit) echo '--width --error --any --signed --why --range --radix' ;;
-    pack) echo '--from --endian --radix --policy --mode --report' ;;
-    unpack) echo '--to --endian --policy --target-mode --print --places --places-mode' ;;
-    repack) echo '--endian --endian-out --policy --target-mode --report' ;;
-    constants) echo '--guard --numerals --name --radix --policy --mode' ;;
+    convert) echo '--from --radix --policy --mode --target-mode --print --places --places-mode --trim --skip-blank --comments --limit --words --separators --refused --keep --report --output' ;;
+    column) echo '--from --radix --policy --mode --target-mode --print --places --places-mode --delimiter --all --header --skip --trim --decimal --decimal-out --thousands --thousands-anywhere --empty --into --keep --limit --report --output' ;;
+    json) echo '--from --radix --policy --mode --target-mode --print --places --places-mode --trim --skip-blank --keep --output' ;;
+    bits) echo '--radix --field --swap --json --file --trim --skip-blank --comments --limit --output' ;;
+    show) echo '--radix --policy --mode --json --file --trim --skip-blank --comments --limit --output' ;;
+    format) echo '--json --output' ;;
+    lines | enclose | sort) echo '--limit --output' ;;
+    least) echo '--why --trim --skip-blank --comments --limit --output' ;;
+    fit) echo '--width --error --any --whole --beyond --signed --why --range --radix --limit --output' ;;
+    pack) echo '--from --endian --radix --policy --mode --trim --skip-blank --comments --limit --report --output' ;;
+    unpack) echo '--to --endian --policy --target-mode --print --places --places-mode --skip --count --limit --output' ;;
+    repack) echo '--endian --endian-out --policy --target-mode --limit --report --output' ;;
+    constants) echo '--guard --numerals --name --decimal --radix --policy --mode --limit --output' ;;
   esac
 }
 # What may be typed after an option of a command, where it takes a value.
 _fixed_value() {
   case $1:$2 in
-    convert:--from | column:--from) echo 'text bits' ;;
+    convert:--from | column:--from | json:--from) echo 'text bits' ;;
     *:--radix | *:-r) echo '2 8 10 16' ;;
     *:--policy | *:-p) echo 'checked saturating wrapping symmetric' ;;
     *:--mode | *:-m | *:--target-mode | *:--places-mode) echo 'nearest ties-away ties-zero ties-up ties-down floor ceil zero away' ;;
-    *:--print) echo 'text bits hex readmemh value all' ;;
-    *:--places | *:--comments | *:--separators | *:--refused | *:--delimiter | *:-d | *:--skip | *:--decimal | \
-      *:--decimal-out | *:--thousands | *:--thousands-anywhere | *:--into | *:--field | *:--limit | \
-      *:--error | *:-e | *:--guard | *:--name) echo '@any' ;;
+    convert:--print) echo 'text bits hex readmemh value all error ulps' ;;
+    *:--places | *:--comments | *:--limit | *:--separators | *:--refused | *:--delimiter | *:-d | *:--skip | \
+      *:--decimal | *:--decimal-out | *:--thousands | *:--thousands-anywhere | *:--into | *:--field | \
+      *:--error | *:-e | *:--whole | *:--count | *:--guard | *:--name) echo '@any' ;;
     convert:--keep) echo 'text all' ;;
     *:--output | *:-o | *:--file) echo '@files' ;;
+    column:--print | json:--print | unpack:--print) echo 'text bits hex readmemh value all' ;;
     *:--empty) echo 'fault keep 0' ;;
     *:--width | *:-w) echo '8 16 32 64' ;;
-    pack:--from | *:--to) echo 'text f64 f32' ;;
+    pack:--from) echo 'text bits f64 f32' ;;
     *:--endian | *:--endian-out) echo 'little big' ;;
+    *:--to) echo 'text f64 f32' ;;
     *:--numerals) echo '@formats' ;;
   esac
 }
@@ -43,6 +47,7 @@ _fixed_operands() {
   case $1 in
     convert | unpack) echo '@formats @formats+@files' ;;
     column) echo '@columns @formats @formats+@files' ;;
+    json) echo '@any @formats @formats+@files' ;;
     bits | show) echo '@formats @any' ;;
     format) echo '@formats' ;;
     lines | enclose | fit) echo '@files' ;;
