@@ -2,6 +2,7 @@
 use Rattle.std.specs.Prelude.{◌≡◌, ◌⊎◌, ℕ, Bool, true, false, List, [], None, Option, Some, codes}
 use Rattle.command_line.specs.Words.{value_of}
 use Rattle.command_line.specs.declared.given.Given.{Given}
+use Rattle.fixed.specs.Lines.{has_layout}
 use Rattle.fixed_arrays.specs.Names.{IsArrayName}
 use Rattle.fixed_arrays.specs.declared.form.ArrayForm.{ArrayForm}
 use Rattle.fixed_arrays.specs.declared.form.ArrayForm.TheVariants.{C, Coe, GuardedC, Mif, Readmemh, Rust, Vhdl}
@@ -77,6 +78,7 @@ pub record HasNoNumeralOption (given : Given) : Type 0 where
   pub radix : value_of given (codes "radix") ≡ None
   pub policy : value_of given (codes "policy") ≡ None
   pub mode : value_of given (codes "mode") ≡ None
+  pub layout : has_layout given ≡ false
 
 -- no option is given that has a meaning only for lists
 pub record HasNoListOption (given : Given) : Type 0 where
@@ -86,6 +88,7 @@ pub record HasNoListOption (given : Given) : Type 0 where
   pub radix : value_of given (codes "radix") ≡ None
   pub policy : value_of given (codes "policy") ≡ None
   pub mode : value_of given (codes "mode") ≡ None
+  pub layout : has_layout given ≡ false
 
 -- whether the form is an array of C
 abbrev pub is_c : ArrayForm → Bool

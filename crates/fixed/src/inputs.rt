@@ -167,11 +167,13 @@ fn push_line_explanation<L: Ledger>(
             let numeral = (layout.numeral_of(text), layout.blanks_before(text));
             push_explanation(report, &rule, TRIM_OFFERS, numeral, cause, steps);
         }
-        Task::Lines => push_last_explanation(report, line_rule(text), text, cause, steps),
-        Task::Enclose if cause != b"overflow".as_slice() => {
+        Task::Lines | Task::LaidOutLines(_) => {
+            push_last_explanation(report, line_rule(text), text, cause, steps);
+        }
+        Task::Enclose | Task::LaidOutEnclose(_) if cause != b"overflow".as_slice() => {
             push_last_explanation(report, enclosure_rule(text), text, cause, steps);
         }
-        Task::Enclose | Task::Constants(_) | Task::Columns => (),
+        Task::Enclose | Task::LaidOutEnclose(_) | Task::Constants(_) | Task::Columns => (),
     }
 }
 
@@ -185,7 +187,13 @@ fn push_last_explanation<L: Ledger>(
 ) {
     if let Some((rule, numeral)) = found {
         let before = line.len().saturating_sub(numeral.len());
-        push_explanation(report, &rule, NO_OFFERS, (numeral, before), cause, steps);
+        // Blanks before the numeral are not at the end of the line.
+        let offers = if numeral.trim_ascii_start().len() == numeral.len() {
+            TRIM_OFFERS
+        } else {
+            NO_OFFERS
+        };
+        push_explanation(report, &rule, offers, (numeral, before), cause, steps);
     }
 }
 

@@ -154,7 +154,7 @@ fn report_line<L: Ledger>(
 /// The options for other spellings of the numerals of a list.
 const OFFERS: Offers = Offers {
     decimal: true,
-    trim: false,
+    trim: true,
     radix: true,
 };
 
@@ -165,13 +165,18 @@ fn push_list_explanation<L: Ledger>(
     line: &RefusedLine,
     steps: &mut Steps<L>,
 ) {
-    let n = match product {
-        Product::List(list) if list.decimal == b'.' => &list.rule.numerals,
+    let list = match product {
+        Product::List(list) if list.decimal == b'.' => &list.rule,
         _ => return,
     };
+    let n = &list.numerals;
     let rule = ConvertRule::reading(Spelling::Numeral, n.radix, n.format, n.policy, n.mode);
-    let text = (without_return(line.text.as_bytes()), 0);
-    push_explanation(report, &rule, OFFERS, text, line.cause.as_bytes(), steps);
+    let text = line.text.as_bytes();
+    let numeral = match list.layout {
+        Some(layout) => (layout.numeral_of(text), layout.blanks_before(text)),
+        None => (without_return(text), 0),
+    };
+    push_explanation(report, &rule, OFFERS, numeral, line.cause.as_bytes(), steps);
 }
 
 /// Returns the number that digits write.

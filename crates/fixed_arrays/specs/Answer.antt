@@ -1,7 +1,8 @@
 -- The answer to an input that is a list of numerals.
 use Rattle.std.specs.Prelude.{◌≡◌, ◌⊎◌, ◌+◌, ◌-◌, ◌==◌, ℕ, ℤ, Bool, true, false, List, [], ◌∷◌, ◌++◌, codes}
-use Rattle.std.specs.Prelude.{decimal, get_or, if◌then◌else◌, length, take}
+use Rattle.std.specs.Prelude.{None, Option, Some, decimal, get_or, if◌then◌else◌, length, map, take}
 use Rattle.fixed_bits.specs.Formats.{IsFormat}
+use Rattle.fixed_command.specs.Layout.{LineLayout, is_skipped, without_blanks}
 use Rattle.fixed_numeral.specs.Messages.{message_of}
 use Rattle.fixed_numeral.specs.declared.error.ParseErrorKind.{ParseErrorKind}
 use Rattle.fixed_show.specs.ShowBlock.{IsReadAs, IsUnread}
@@ -27,22 +28,32 @@ pub record IsElement (n : Numerals) (line : List ℕ) (bits : ℤ) : Type 0 wher
 abbrev pub IsRefusedElement : Numerals → List ℕ → ParseErrorKind → Type 0
 IsRefusedElement n line kind = IsUnread n.mode n.radix (without_return line) n.format n.policy kind
 
--- these are the numbers of these lines, one for each and in order
-abbrev pub AreElements : Numerals → List (List ℕ) → List ℤ → Type 0
+-- the line of a numeral: a skipped line has none
+abbrev pub numeral_in : Option LineLayout → List ℕ → Option (List ℕ)
+numeral_in None line = Some line
+numeral_in (Some l) line = if is_skipped l line then None else Some (without_blanks l line)
+
+abbrev pub numerals_in : Option LineLayout → List (List ℕ) → List (Option (List ℕ))
+numerals_in l lines = map (numeral_in l) lines
+
+-- these are the numbers of the numerals of these lines, one for each and in order
+abbrev pub AreElements : Numerals → List (Option (List ℕ)) → List ℤ → Type 0
 AreElements n [] [] = Unit {0}
 AreElements n [] (bits ∷ numbers) = ⊥
-AreElements n (line ∷ lines) [] = ⊥
-AreElements n (line ∷ lines) (bits ∷ numbers) = IsElement n line bits × AreElements n lines numbers
+AreElements n (None ∷ lines) numbers = AreElements n lines numbers
+AreElements n (Some line ∷ lines) [] = ⊥
+AreElements n (Some line ∷ lines) (bits ∷ numbers) = IsElement n line bits × AreElements n lines numbers
 
 -- the first refused line of these lines, numbered from `k` on, is line `p`, and `kind` says why
-abbrev pub RefusedFrom : ℕ → Numerals → List (List ℕ) → ℕ → ParseErrorKind → Type 0
+abbrev pub RefusedFrom : ℕ → Numerals → List (Option (List ℕ)) → ℕ → ParseErrorKind → Type 0
 RefusedFrom k n [] p kind = ⊥
-RefusedFrom k n (line ∷ lines) p kind = (IsRefusedElement n line kind × (p ≡ k))
+RefusedFrom k n (None ∷ lines) p kind = RefusedFrom (k + 1) n lines p kind
+RefusedFrom k n (Some line ∷ lines) p kind = (IsRefusedElement n line kind × (p ≡ k))
     ⊎ ((bits : ℤ) × IsElement n line bits × RefusedFrom (k + 1) n lines p kind)
 
--- why a list is not an array
-abbrev pub HasFault : Numerals → List (List ℕ) → ArrayFault → Type 0
-HasFault n all Empty = all ≡ []
+-- why a list is not an array; without a numeral it is empty
+abbrev pub HasFault : Numerals → List (Option (List ℕ)) → ArrayFault → Type 0
+HasFault n all Empty = AreElements n all []
 HasFault n all (Refused place kind) = RefusedFrom 1 n all place kind
 HasFault n all NoMemory = ⊥
 
@@ -59,17 +70,17 @@ frame_of r = record { form = r.form; name = r.name; guard = r.guard; format = r.
 
 -- the answer is the array of the input's numbers
 pub record IsArray (r : ArrayRule) (input : List ℕ) (answer : AnswerText) : Type 0 where
-  pub some : ¬ (lines input ≡ [])
   pub format : IsFormat r.numerals.format.width r.numerals.format.frac
   pub numbers : List ℤ
-  pub elements : AreElements r.numerals (lines input) numbers
+  pub some : ¬ (numbers ≡ [])
+  pub elements : AreElements r.numerals (numerals_in r.layout.now (lines input)) numbers
   pub text : answer.text ≡ array_text (frame_of r) numbers
   pub fault : answer.fault ≡ false
 
 -- the answer is the line of the input's first fault
 pub record IsRefusal (r : ArrayRule) (input : List ℕ) (answer : AnswerText) : Type 0 where
   pub why : ArrayFault
-  pub is : HasFault r.numerals (lines input) why
+  pub is : HasFault r.numerals (numerals_in r.layout.now (lines input)) why
   pub text : answer.text ≡ fault_line why
   pub fault : answer.fault ≡ true
 

@@ -1,15 +1,17 @@
 //! Reads the elements of an array from the lines of a list of numerals.
 
-ghost use Rattle.std.specs.Prelude.{◌≡◌, ◌<◌, ◌+◌, ◌^◌, [], IfErr, IfOk, OnOk};
+ghost use Rattle.std.specs.Prelude.{◌≡◌, ◌<◌, ◌+◌, ◌^◌, IfErr, IfOk, OnOk, option_map};
 ghost use Rattle.fixed_bits.specs.Formats.{IsFormat};
 ghost use Rattle.fixed_bits.specs.Ranges.{IsInRange, IsWide};
 ghost use Rattle.line_engine.specs.Lines.{lines};
-ghost use Rattle.fixed_arrays.specs.Answer.{IsElement, IsRefusedElement, without_return};
-ghost use Rattle.fixed_arrays.specs.Inner.Elements.{HasElements, HasError, PushesElement, RefusesElement};
+ghost use Rattle.fixed_arrays.specs.Answer.{IsElement, IsRefusedElement, numeral_in, numerals_in, without_return};
+ghost use Rattle.fixed_arrays.specs.Inner.Elements.{HasElements, HasError, PushesElement, PushesLine, RefusesElement};
+ghost use Rattle.fixed_arrays.specs.Inner.Elements.{RefusesLine};
 
 use crate::fault::ArrayFault;
 use crate::rule::{ArrayRule, Numerals};
 use crate::text::{frame_of, push_element};
+use fixed_command::Layout;
 use fixed_numeral::ParseFixedError;
 use fixed_show::read_shown;
 use fixed_steps::Steps;
@@ -24,6 +26,24 @@ pub struct Elements {
     pub text: Vec<u8>,
     /// The number of elements.
     pub count: u64,
+    /// The number of lines with a number or without one that were read for them.
+    pub lines: u64,
+}
+
+/// Returns the line of a numeral, without blanks if the layout says so. `None`: the line is skipped.
+fn numeral_in<'l>(layout: &Option<Layout>, line: &'l [u8]) -> Option<&'l [u8]>
+    ensures { option_map (λ numeral. numeral.now) result ≡ numeral_in layout.now line.now }
+{
+    match layout {
+        None => Some(line),
+        Some(layout) => {
+            if layout.is_skipped(line) {
+                None
+            } else {
+                Some(layout.without_blanks(line))
+            }
+        }
+    }
 }
 
 /// Returns a line without one carriage return at its end.
@@ -66,18 +86,19 @@ fn element_of<L: Ledger>(
 }
 
 impl Elements {
-    /// Appends the element of the next line.
+    /// Appends the element of the next line, which has a numeral.
     fn push<L: Ledger>(
         &mut self,
         rule: &ArrayRule<'_>,
         line: &[u8],
         steps: &mut Steps<L>,
     ) -> Result<(), ArrayFault>
-        requires { self.old.count + 1 < 2 ^ 64 }
+        requires count { self.old.count + 1 < 2 ^ 64 }
+        requires lines { self.old.lines + 1 < 2 ^ 64 }
         ensures ok { OnOk result (PushesElement rule.now line.now self.old self.new) }
-        ensures err { IfErr result (RefusesElement rule.now.numerals line.now (self.old.count + 1)) }
+        ensures err { IfErr result (RefusesElement rule.now.numerals line.now (self.old.lines + 1)) }
     {
-        let place = self.count + 1;
+        let place = self.lines + 1;
         match element_of(&rule.numerals, line, steps) {
             Ok(bits) => {
                 let frame = frame_of(rule);
@@ -88,8 +109,31 @@ impl Elements {
             }
             Err(error) => return Err(ArrayFault::Refused { place, error }),
         }
-        self.count = place;
+        self.count += 1;
+        self.lines = place;
         Ok(())
+    }
+
+    /// Appends the element of the next line, unless it is skipped.
+    fn push_line<L: Ledger>(
+        &mut self,
+        rule: &ArrayRule<'_>,
+        line: &[u8],
+        steps: &mut Steps<L>,
+    ) -> Result<(), ArrayFault>
+        requires count { self.old.count + 1 < 2 ^ 64 }
+        requires lines { self.old.lines + 1 < 2 ^ 64 }
+        ensures ok { OnOk result (PushesLine rule.now (numeral_in rule.now.layout.now line.now) self.old self.new) }
+        ensures err { IfErr result (RefusesLine rule.now.numerals (numeral_in rule.now.layout.now line.now)
+            (self.old.lines + 1)) }
+    {
+        match numeral_in(rule.layout, line) {
+            Some(numeral) => self.push(rule, numeral, steps),
+            None => {
+                self.lines += 1;
+                Ok(())
+            }
+        }
     }
 }
 
@@ -97,16 +141,16 @@ impl Elements {
 ///
 /// # Errors
 ///
-/// The first refused line, an input without a line, or no memory.
+/// The first refused line, an input without a numeral, or no memory.
 pub fn read_elements<L: Ledger>(
     alloc: Global,
     rule: &ArrayRule<'_>,
     input: &[u8],
     steps: &mut Steps<L>,
 ) -> Result<Elements, ArrayFault>
-    ensures ok { IfOk result (HasElements rule.now (lines input.now)) }
-    ensures some { OnOk result (¬ (lines input.now ≡ [])) }
-    ensures err { IfErr result (HasError rule.now.numerals (lines input.now)) }
+    ensures ok { IfOk result (HasElements rule.now (numerals_in rule.now.layout.now (lines input.now))) }
+    ensures some { IfOk result (λ elements. 0 < elements.count) }
+    ensures err { IfErr result (HasError rule.now.numerals (numerals_in rule.now.layout.now (lines input.now))) }
     ensures format { IsFormat rule.now.numerals.format.width rule.now.numerals.format.frac }
 {
     let width = rule.numerals.format.width();
@@ -114,17 +158,18 @@ pub fn read_elements<L: Ledger>(
     let mut elements = Elements {
         text: Vec::new(alloc),
         count: 0,
+        lines: 0,
     };
-    if input.is_empty() {
-        return Err(ArrayFault::Empty);
-    }
     let mut rest = input;
     while !rest.is_empty() {
         let (line, after) = first_line(rest);
-        match elements.push(rule, line, steps) {
+        match elements.push_line(rule, line, steps) {
             Ok(()) => rest = after,
             Err(fault) => return Err(fault),
         }
+    }
+    if elements.count == 0 {
+        return Err(ArrayFault::Empty);
     }
     Ok(elements)
 }

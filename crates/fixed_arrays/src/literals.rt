@@ -171,9 +171,11 @@ pub fn literal_elements<L: Ledger>(
 {
     let mut text = Vec::new(alloc);
     push_literals(&mut text, frame, constants, steps)?;
+    let count = constants.len() as u64;
     Ok(Elements {
         text,
-        count: constants.len() as u64,
+        count,
+        lines: count,
     })
 }
 

@@ -9,6 +9,7 @@ use crate::fault::ArrayFault;
 use crate::form::ArrayForm;
 use crate::text::{array_text, fault_text, frame_of};
 use fixed_bits::{Format, Policy, ReadMode};
+use fixed_command::Layout;
 use fixed_numeral::Radix;
 use fixed_steps::Steps;
 use line_engine::{NoMemory, WholeAnswer, WholeRule};
@@ -29,7 +30,7 @@ pub struct Numerals {
 }
 
 /// The rule that answers a list of numerals, one a line, with the array of its numbers.
-#[derive(Clone, Copy, Debug, PartialEq, Eq)]
+#[derive(Clone, Copy)]
 pub struct ArrayRule<'a> {
     /// The form of the array.
     pub form: ArrayForm,
@@ -39,6 +40,8 @@ pub struct ArrayRule<'a> {
     pub name: &'a [u8],
     /// The name that guards a C header; empty without a guard.
     pub guard: &'a [u8],
+    /// What a line has besides its numeral, if anything. A skipped line has no number.
+    pub layout: &'a Option<Layout>,
 }
 
 /// Returns the answer that names a fault.

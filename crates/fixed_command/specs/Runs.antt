@@ -27,8 +27,8 @@ use Rattle.fixed_command.specs.Products.{IsProduct}
 use Rattle.fixed_command.specs.Renamed.{IsRenamedAnswer}
 use Rattle.fixed_command.specs.declared.task.Task.{Task}
 use Rattle.fixed_command.specs.declared.task.Task.TheVariants.{Ask, Columns, Constants, Convert, Enclose, Errors}
-use Rattle.fixed_command.specs.declared.task.Task.TheVariants.{LaidOut, LaidOutAsk, LaidOutLeast, Least, Lines}
-use Rattle.fixed_command.specs.declared.task.Task.TheVariants.{Reported}
+use Rattle.fixed_command.specs.declared.task.Task.TheVariants.{LaidOut, LaidOutAsk, LaidOutEnclose, LaidOutLeast}
+use Rattle.fixed_command.specs.declared.task.Task.TheVariants.{LaidOutLines, Least, Lines, Reported}
 
 -- the visible state of a run at one moment, without the gathered bytes
 abbrev pub outside_at : Moment → Outside
@@ -91,12 +91,14 @@ reported_extra = 20973788
 -- the run of a task over an input within a limit
 abbrev pub TaskRuns : Option ℕ → Task → Outside → Outside → Status → Type 0
 TaskRuns limit Lines = HasLineRun respell.IsAnswer (limit_of limit) 8 624
+TaskRuns limit (LaidOutLines layout) = HasLineRun (AnswersLaidOut layout respell.IsAnswer) (limit_of limit) 8 624
 TaskRuns limit (Convert settings) = HasLineRun (IsLineReply settings) (limit_of limit) 8 624
 TaskRuns limit (LaidOut laid) = HasLineRun (IsLaidOut laid.layout (IsReply laid.rule)) (limit_of limit) 8 624
 TaskRuns limit (Reported laid) = HasLineRun (IsLaidOut laid.layout (IsReply laid.rule)) (limit_of limit)
     reported_per_byte reported_extra
 TaskRuns limit (Errors lines) = HasLineRun (IsErrorLine lines) (limit_of limit) 11 1565
 TaskRuns limit Enclose = HasLineRun enclose.IsAnswer (limit_of limit) 16 1248
+TaskRuns limit (LaidOutEnclose layout) = HasLineRun (AnswersLaidOut layout enclose.IsAnswer) (limit_of limit) 16 1248
 TaskRuns limit (Ask form question) = HasLineRun (IsLineBlock form question) (limit_of limit) 26 3307
 TaskRuns limit (LaidOutAsk form question layout) = HasLineRun (AnswersLaidOut layout (IsLineBlock form question))
     (limit_of limit) 26 3307

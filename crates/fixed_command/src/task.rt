@@ -91,6 +91,8 @@ impl Limit {
 pub enum Task<'a> {
     /// Each line is answered as `fixed_tool` answers it.
     Lines,
+    /// The same for lines as people write them.
+    LaidOutLines(Layout),
     /// Each line is a numeral that is converted.
     Convert(ConvertRule),
     /// The same for lines as people write them.
@@ -101,6 +103,8 @@ pub enum Task<'a> {
     Errors(ErrorLines),
     /// Each line is answered with the enclosure of its numeral.
     Enclose,
+    /// The same for lines as people write them.
+    LaidOutEnclose(Layout),
     /// Each line is answered in a form, as a question requests.
     Ask(Form, Question),
     /// The same for lines as people write them.
@@ -204,6 +208,34 @@ fn run_words<S: Source, K: Sink, L: Ledger>(
     status
 }
 
+/// Answers each line of an input, as people write them, as `fixed_tool` does.
+fn run_laid_words<S: Source, K: Sink, L: Ledger>(
+    alloc: Global,
+    limit: &Option<Limit>,
+    layout: &Layout,
+    watch: &Watch,
+    source: &mut S,
+    sink: &mut K,
+    steps: &mut Steps<L>,
+) -> Status
+    ensures run { HasLineRun (AnswersLaidOut layout.now IsAnswer) (limit_of limit.now) 8 624
+        (outside (S.left source.old) (S.asked source.old) (S.failures source.old)
+        (K.written sink.old) (K.failures sink.old) steps.old)
+        (outside (S.left source.new) (S.asked source.new) (S.failures source.new)
+        (K.written sink.new) (K.failures sink.new) steps.new) result }
+    ensures memory { result ≡ Status.NoMemory → sink.new ≡ sink.old }
+{
+    let laid = LaidOutLines {
+        rule: WatchedLines {
+            watch: Watch::new(),
+        },
+        layout: layout.same(),
+    };
+    let status = run_rule(alloc, bytes_within(limit), &laid, source, sink, steps);
+    watch.take(&laid.rule.watch);
+    status
+}
+
 /// Answers each line of an input with the enclosure of its numeral.
 fn run_enclosures<S: Source, K: Sink, L: Ledger>(
     alloc: Global,
@@ -225,6 +257,34 @@ fn run_enclosures<S: Source, K: Sink, L: Ledger>(
     };
     let status = run_rule(alloc, bytes_within(limit), &rule, source, sink, steps);
     watch.take(&rule.watch);
+    status
+}
+
+/// Answers each line of an input, as people write them, with the enclosure of its numeral.
+fn run_laid_enclosures<S: Source, K: Sink, L: Ledger>(
+    alloc: Global,
+    limit: &Option<Limit>,
+    layout: &Layout,
+    watch: &Watch,
+    source: &mut S,
+    sink: &mut K,
+    steps: &mut Steps<L>,
+) -> Status
+    ensures run { HasLineRun (AnswersLaidOut layout.now enclose.IsAnswer) (limit_of limit.now) 16 1248
+        (outside (S.left source.old) (S.asked source.old) (S.failures source.old)
+        (K.written sink.old) (K.failures sink.old) steps.old)
+        (outside (S.left source.new) (S.asked source.new) (S.failures source.new)
+        (K.written sink.new) (K.failures sink.new) steps.new) result }
+    ensures memory { result ≡ Status.NoMemory → sink.new ≡ sink.old }
+{
+    let enclosures = LaidOutLines {
+        rule: WatchedEnclosures {
+            watch: Watch::new(),
+        },
+        layout: layout.same(),
+    };
+    let status = run_rule(alloc, bytes_within(limit), &enclosures, source, sink, steps);
+    watch.take(&enclosures.rule.watch);
     status
 }
 
@@ -274,15 +334,15 @@ fn run_laid_questions<S: Source, K: Sink, L: Ledger>(
         (K.written sink.new) (K.failures sink.new) steps.new) result }
     ensures memory { result ≡ Status.NoMemory → sink.new ≡ sink.old }
 {
-    let laid = LaidOutLines {
+    let questions = LaidOutLines {
         rule: WatchedBlocks {
             rule,
             watch: Watch::new(),
         },
         layout: layout.same(),
     };
-    let status = run_rule(alloc, bytes_within(limit), &laid, source, sink, steps);
-    watch.take(&laid.rule.watch);
+    let status = run_rule(alloc, bytes_within(limit), &questions, source, sink, steps);
+    watch.take(&questions.rule.watch);
     status
 }
 
@@ -517,11 +577,17 @@ pub fn run_task<S: Source, K: Sink, L: Ledger>(
 {
     match task {
         Task::Lines => run_words(alloc, limit, watch, source, sink, steps),
+        Task::LaidOutLines(layout) => {
+            run_laid_words(alloc, limit, layout, watch, source, sink, steps)
+        }
         Task::Convert(rule) => run_convert(alloc, limit, rule, watch, source, sink, steps),
         Task::LaidOut(laid) => run_laid_out(alloc, limit, laid, watch, source, sink, steps),
         Task::Reported(laid) => run_reported(alloc, limit, laid, watch, source, sink, steps),
         Task::Errors(lines) => run_errors(alloc, limit, lines, watch, source, sink, steps),
         Task::Enclose => run_enclosures(alloc, limit, watch, source, sink, steps),
+        Task::LaidOutEnclose(layout) => {
+            run_laid_enclosures(alloc, limit, layout, watch, source, sink, steps)
+        }
         Task::Ask(form, question) => {
             run_questions(alloc, limit, *form, *question, watch, source, sink, steps)
         }

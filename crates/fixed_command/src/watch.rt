@@ -246,6 +246,18 @@ impl Watched for WatchedBlocks {
     }
 }
 
+impl Watched for WatchedLines {
+    fn watch(&self) -> &Watch {
+        &self.watch
+    }
+}
+
+impl Watched for WatchedEnclosures {
+    fn watch(&self) -> &Watch {
+        &self.watch
+    }
+}
+
 /// The rule of lines, with a watch over its refusals.
 #[derive(Drop)]
 pub struct WatchedLines {

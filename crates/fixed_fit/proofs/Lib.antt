@@ -16,3 +16,4 @@ mod BoundedLemmas
 mod BoundedUniqueLemmas
 mod HalfBoundLemmas
 mod KeptLemmas
+mod LaidLemmas

@@ -1,6 +1,8 @@
 -- The answer that is made of a list, and the effects of a run over it.
 use Rattle.std.specs.Prelude.{◌≡◌, ℕ, Bool, List, [], Option, Some, None, Result}
 use Rattle.std.specs.declared.convert.Infallible.{Infallible}
+use Rattle.fixed_command.specs.LaidList.{laid_out}
+use Rattle.fixed_command.specs.Layout.{LineLayout}
 use Rattle.line_engine.specs.AnswerText.{AnswerText}
 use Rattle.line_engine.specs.declared.status.Status.{Status}
 use Rattle.run_engine.specs.LineStatus.{IsStatus}
@@ -41,22 +43,25 @@ pub record Answers (q : Question) (widths : Option Widths) (bound input text : L
   pub fault_is : fault ≡ (said answer).fault
   pub unfit_is : unfit ≡ why_of answer
 
--- the text that is made of a list, by the state of the machine: nothing before its end
-abbrev pub MakesFit : Question → Option Widths → List ℕ → List ℕ → List ℕ → How Infallible → FitList → Type 0
-MakesFit q widths bound bytes text going list = (text ≡ []) × HasRead q.radix (asked_by q widths bound) bytes
+-- the text that is made of a list whose lines have a layout, by the state of the machine: nothing before its end
+abbrev pub MakesFit : Question → Option Widths → List ℕ → Option LineLayout → List ℕ → List ℕ → How Infallible → FitList
+    → Type 0
+MakesFit q widths bound l bytes text going list = (text ≡ []) × HasRead q.radix (asked_by q widths bound) l bytes
     list.reader
-MakesFit q widths bound bytes text (finished fault) list = Answers q widths bound bytes text fault list.unfit
-MakesFit q widths bound bytes text lacking list = text ≡ []
-MakesFit q widths bound bytes text (stopped late why) list = ⊥
+MakesFit q widths bound l bytes text (finished fault) list = Answers q widths bound (laid_out l bytes) text fault
+    list.unfit
+MakesFit q widths bound l bytes text lacking list = text ≡ []
+MakesFit q widths bound l bytes text (stopped late why) list = ⊥
 
 abbrev pub MakesBy : FitList → List ℕ → List ℕ → ℕ → How Infallible → FitList → Type 0
 MakesBy first bytes text spent how last = (last.question ≡ first.question) × (last.widths ≡ first.widths)
-    × (last.bound ≡ first.bound) × MakesFit first.question first.widths first.bound.items bytes text how last
+    × (last.bound ≡ first.bound) × MakesFit first.question first.widths first.bound.items first.reader.layout bytes
+    text how last
 
--- what a run within a limit that ended with this status has taken, made and written; a and b are what was seen of both
--- devices before and after it, by names for them
-pub record HasFitRun (limit : ℕ) (q : Question) (widths : Option Widths) (bound : List ℕ) (a b : ℕ → ℕ → Seen)
-    (unfit : Option Unfit) (status : Status) : Type 0 where
+-- what a run within a limit over lines with a layout, which ended with this status, has taken, made and written; a and
+-- b are what was seen of both devices before and after it, by names for them
+pub record HasFitRun (limit : ℕ) (l : Option LineLayout) (q : Question) (widths : Option Widths) (bound : List ℕ)
+    (a b : ℕ → ℕ → Seen) (unfit : Option Unfit) (status : Status) : Type 0 where
   pub first : FitList
   pub last : Cut FitList
   pub steps : ℕ
@@ -68,6 +73,7 @@ pub record HasFitRun (limit : ℕ) (q : Question) (widths : Option Widths) (boun
   pub question_is : first.question ≡ q
   pub widths_are : first.widths ≡ widths
   pub bound_is : first.bound.items ≡ bound
+  pub layout_is : first.reader.layout ≡ l
   pub ends : IsStatus end status
   pub run : HasRun (λ bytes text spent how it. MakesBy first bytes text spent how it.0) last limit
       (moment (a source sink) [] steps) (moment (b source sink) held steps') end

@@ -17,4 +17,4 @@ mod short;
 
 pub use answer::Unfit;
 pub use question::{Fractions, Question, Widths};
-pub use run::{FitEnd, run_fit};
+pub use run::{FitEnd, InputForm, run_fit};

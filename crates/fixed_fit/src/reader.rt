@@ -1,13 +1,15 @@
 //! The machine of a list: it keeps what is known of the lines so far and writes the answer at the end of the input.
 
 ghost use Rattle.std.specs.Prelude.{◌≡◌, ◌<◌, ◌++◌, ◌∷◌, [], List, ℕ, Bool, true, OnOk, IfOk, IfSome, MatchOption};
-ghost use Rattle.std.specs.Prelude.{get_or, length, take};
+ghost use Rattle.std.specs.Prelude.{Option, get_or, length, map, take};
 ghost use Rattle.line_engine.specs.Lines.{lines};
 ghost use Rattle.run_engine.specs.Machines.{Feeds, Finishes, IsGoing, going};
 ghost use Rattle.run_engine.specs.Pieces.{HasNone, is_newline};
 ghost use Rattle.run_engine.specs.Seen.{moment};
 ghost use Rattle.fixed_bits.specs.Ranges.{IsWidth};
 ghost use Rattle.fixed_numeral.specs.Numeral.{IsNumeral};
+ghost use Rattle.fixed_command.specs.LaidList.{laid};
+ghost use Rattle.fixed_command.specs.Layout.{LineLayout};
 ghost use Rattle.fixed_error.specs.Short.{IsShortRead};
 ghost use Rattle.fixed_fit.specs.Inner.Lengths.{IsFlatRead};
 ghost use Rattle.fixed_fit.specs.Inner.Serving.{AreServed, Asked, asked_of, bounded, unbounded};
@@ -23,6 +25,7 @@ use crate::progress::Progress;
 use crate::question::{Fractions, Question, Widths};
 use crate::serving::{Within, most_width};
 use crate::short::{FlatDecimal, flat_decimal};
+use fixed_command::Layout;
 use fixed_error::{GreatestErrors, read_short};
 use fixed_numeral::{Radix, ShortNumeral};
 use fixed_steps::Steps;
@@ -46,6 +49,29 @@ pub struct Reader {
     pub errors: GreatestErrors,
     /// The formats that those lines fit within a bound, if each line is a numeral.
     pub within: Within,
+    /// What a line has besides its numeral, if anything.
+    pub layout: Option<Layout>,
+}
+
+/// Returns the numeral of a line, which is the line without a layout. A skipped line counts as `0`.
+#[inline(always)]
+fn numeral_of<'l>(layout: &Option<Layout>, line: &'l [u8]) -> &'l [u8]
+    ensures { result.now ≡ laid layout.now line.now }
+{
+    match layout {
+        Some(layout) => layout.numeral_in_list(line),
+        None => line,
+    }
+}
+
+/// Returns the same layout.
+fn same_layout(layout: &Option<Layout>) -> Option<Layout>
+    ensures { result ≡ layout.now }
+{
+    match layout {
+        Some(layout) => Some(layout.same()),
+        None => None,
+    }
 }
 
 /// Returns a numeral that was read as a short decimal, if it has no exponent.
@@ -108,8 +134,9 @@ impl Reader {
     fn end_line<L: Ledger>(&mut self, part: &[u8], steps: &mut Steps<L>) -> Result<(), NoMemory>
         requires { HasSomeRead self.old }
         ensures line { OnOk result (self.new.line.items ≡ []) }
+        ensures layout { OnOk result (self.new.layout ≡ self.old.layout) }
         ensures ended { OnOk result ((r : Radix) (a : Asked) (done : List (List ℕ)) → HasLines r a done self.old
-            → HasLines r a (done ++ (self.old.line.items ++ part.now) ∷ []) self.new) }
+            → HasLines r a (done ++ laid self.old.layout (self.old.line.items ++ part.now) ∷ []) self.new) }
     {
         if !self.line.is_empty() {
             return self.end_long_line(part, steps);
@@ -118,7 +145,7 @@ impl Reader {
             &mut self.progress,
             &mut self.errors,
             &mut self.within,
-            part,
+            numeral_of(&self.layout, part),
             steps,
         ) {
             Ok(()) => Ok(()),
@@ -135,15 +162,16 @@ impl Reader {
     ) -> Result<(), NoMemory>
         requires { HasSomeRead self.old }
         ensures line { OnOk result (self.new.line.items ≡ []) }
+        ensures layout { OnOk result (self.new.layout ≡ self.old.layout) }
         ensures ended { OnOk result ((r : Radix) (a : Asked) (done : List (List ℕ)) → HasLines r a done self.old
-            → HasLines r a (done ++ (self.old.line.items ++ part.now) ∷ []) self.new) }
+            → HasLines r a (done ++ laid self.old.layout (self.old.line.items ++ part.now) ∷ []) self.new) }
     {
         extend(&mut self.line, part)?;
         match add_line(
             &mut self.progress,
             &mut self.errors,
             &mut self.within,
-            &self.line,
+            numeral_of(&self.layout, &self.line),
             steps,
         ) {
             Ok(()) => {
@@ -157,8 +185,8 @@ impl Reader {
     /// Ends the last line, unless the input ended with a newline.
     fn finish<L: Ledger>(&mut self, steps: &mut Steps<L>) -> Result<(), NoMemory>
         requires { HasSomeRead self.old }
-        ensures { OnOk result ((r : Radix) (a : Asked) (whole : List ℕ) → HasRead r a whole self.old
-            → HasLines r a (lines whole) self.new) }
+        ensures { OnOk result ((r : Radix) (a : Asked) (l : Option LineLayout) (whole : List ℕ)
+            → HasRead r a l whole self.old → HasLines r a (map (laid l) (lines whole)) self.new) }
     {
         if self.line.is_empty() {
             return Ok(());
@@ -177,11 +205,12 @@ fn new_reader(
     width: u32,
     fractions: Fractions,
     within: Within,
+    layout: &Option<Layout>,
 ) -> Result<Reader, AllocError>
     requires { IsWidth width }
     ensures { IfOk result (λ reader. (is range : Bool) (bound : List ℕ) (widths : Widths) (one : ℕ)
         → within.is_bounded ≡ is → (is ≡ true → AreServed radix (asked_of width fractions is range bound widths one) []
-        within) → HasRead radix (asked_of width fractions is range bound widths one) [] reader) }
+        within) → HasRead radix (asked_of width fractions is range bound widths one) layout.now [] reader) }
 {
     let progress = Progress::new(radix, width, fractions);
     let errors = GreatestErrors::new(alloc, radix, progress.count())?;
@@ -190,6 +219,7 @@ fn new_reader(
         progress,
         errors,
         within,
+        layout: same_layout(layout),
     })
 }
 
@@ -199,11 +229,12 @@ fn plain_reader(
     radix: Radix,
     width: u32,
     fractions: Fractions,
+    layout: &Option<Layout>,
 ) -> Result<Reader, AllocError>
     requires { IsWidth width }
-    ensures { IfOk result (HasRead radix (unbounded width fractions) []) }
+    ensures { IfOk result (HasRead radix (unbounded width fractions) layout.now []) }
 {
-    match new_reader(alloc, radix, width, fractions, Within::none(alloc)) {
+    match new_reader(alloc, radix, width, fractions, Within::none(alloc), layout) {
         Ok(reader) => Ok(reader),
         Err(error) => Err(error),
     }
@@ -215,17 +246,25 @@ fn bounded_reader<L: Ledger>(
     question: &Question,
     bound: &[u8],
     widths: Widths,
+    layout: &Option<Layout>,
     steps: &mut Steps<L>,
 ) -> Result<Reader, AllocError>
     requires bound { IsNumeral question.now.radix bound.now }
     ensures { IfOk result (HasRead question.now.radix (bounded question.now.is_range
         (most_width widths question.now.kind.width) question.now.fractions bound.now widths
-        question.now.kind.width) []) }
+        question.now.kind.width) layout.now []) }
 {
     let one = question.kind.width();
     let within = Within::new(alloc, question, bound, widths, steps)?;
     let most = most_width(widths, one);
-    match new_reader(alloc, question.radix, most, question.fractions, within) {
+    match new_reader(
+        alloc,
+        question.radix,
+        most,
+        question.fractions,
+        within,
+        layout,
+    ) {
         Ok(reader) => Ok(reader),
         Err(error) => Err(error),
     }
@@ -237,17 +276,18 @@ fn asked_reader<L: Ledger>(
     question: &Question,
     widths: Option<Widths>,
     bound: &[u8],
+    layout: &Option<Layout>,
     steps: &mut Steps<L>,
 ) -> Result<Reader, AllocError>
     requires { IfSome widths (λ w. IsNumeral question.now.radix bound.now) }
-    ensures { IfOk result (HasRead question.now.radix (asked_by question.now widths bound.now) []) }
+    ensures { IfOk result (HasRead question.now.radix (asked_by question.now widths bound.now) layout.now []) }
 {
     match widths {
         None => {
             let width = question.kind.width();
-            plain_reader(alloc, question.radix, width, question.fractions)
+            plain_reader(alloc, question.radix, width, question.fractions, layout)
         }
-        Some(some) => bounded_reader(alloc, question, bound, some, steps),
+        Some(some) => bounded_reader(alloc, question, bound, some, layout, steps),
     }
 }
 
@@ -273,18 +313,19 @@ impl FitList {
         question: &Question,
         widths: Option<Widths>,
         bound: &[u8],
+        layout: &Option<Layout>,
         steps: &mut Steps<L>,
     ) -> Result<FitList, AllocError>
         requires { IfSome widths (λ w. IsNumeral question.now.radix bound.now) }
         ensures question { IfOk result (λ list. list.question ≡ question.now) }
         ensures widths { IfOk result (λ list. list.widths ≡ widths) }
         ensures bound { IfOk result (λ list. list.bound.items ≡ bound.now) }
-        ensures read { IfOk result (λ list. HasRead question.now.radix (asked_by question.now widths bound.now) []
-            list.reader) }
+        ensures read { IfOk result (λ list. HasRead question.now.radix (asked_by question.now widths bound.now)
+            layout.now [] list.reader) }
     {
         let mut text = Vec::new(alloc);
         text.extend_from_slice(bound)?;
-        let reader = asked_reader(alloc, question, widths, bound, steps)?;
+        let reader = asked_reader(alloc, question, widths, bound, layout, steps)?;
         Ok(FitList {
             question: *question,
             widths,

@@ -11,13 +11,22 @@ ghost use Rattle.run_engine.specs.Seen.{seen_of};
 use crate::answer::Unfit;
 use crate::question::{Question, Widths};
 use crate::reader::FitList;
-use fixed_command::{Limit, bytes_within};
+use fixed_command::{Layout, Limit, bytes_within};
 use fixed_steps::Steps;
 use line_engine::{Sink, Source, Status};
 use run_engine::{Cut, Devices, End, Gathered, run};
 use std::alloc::Global;
 use std::convert::Infallible;
 use std::sync::ledger::Ledger;
+
+/// The form of an input: how long it may be, and what its lines may have.
+#[derive(Clone, Copy)]
+pub struct InputForm<'f> {
+    /// The most bytes, if there is a limit.
+    pub limit: &'f Option<Limit>,
+    /// What a line has besides its numeral, if anything.
+    pub layout: &'f Option<Layout>,
+}
 
 /// How a run ended.
 #[derive(Drop)]
@@ -56,7 +65,8 @@ fn status_of(end: End<Infallible>) -> Status
     }
 }
 
-/// Answers an input: a list of numerals, one a line.
+/// Answers an input: a list of numerals, one a line. A line that the layout skips counts as `0`, which fits each format
+/// without an error.
 ///
 /// The answer names a format and the greatest error of the list in it. Without widths, it is the format of the
 /// question's width and sign rule with the greatest fraction length at which every numeral is in range after rounding
@@ -70,7 +80,7 @@ fn status_of(end: End<Infallible>) -> Status
 /// bytes than the limit or, without one, than 2^62.
 pub fn run_fit<S: Source, K: Sink, L: Ledger>(
     alloc: Global,
-    limit: &Option<Limit>,
+    form: &InputForm<'_>,
     question: &Question,
     widths: Option<Widths>,
     bound: &[u8],
@@ -82,14 +92,14 @@ pub fn run_fit<S: Source, K: Sink, L: Ledger>(
 
     // By status: what was read and written, which count of failures rose, and what was requested from the source. Or
     // there was no memory, and nothing was read or written.
-    ensures { HasFitRun (limit_of limit.now) question.now widths bound.now
+    ensures { HasFitRun (limit_of form.now.limit.now) form.now.layout.now question.now widths bound.now
         (seen_of (S.left source.old) (S.asked source.old) (S.failures source.old) (K.written sink.old)
         (K.failures sink.old))
         (seen_of (S.left source.new) (S.asked source.new) (S.failures source.new) (K.written sink.new)
         (K.failures sink.new)) result.unfit result.status
         ⊎ ((result.status ≡ Status.NoMemory) × (source.new ≡ source.old) × (sink.new ≡ sink.old)) }
 {
-    match FitList::new(alloc, question, widths, bound, steps) {
+    match FitList::new(alloc, question, widths, bound, form.layout, steps) {
         Err(_) => FitEnd {
             status: Status::NoMemory,
             unfit: None,
@@ -97,7 +107,7 @@ pub fn run_fit<S: Source, K: Sink, L: Ledger>(
         Ok(list) => {
             let mut machine = Cut(list);
             let mut out = Gathered::new(Devices { source, sink });
-            let end = run(&mut machine, bytes_within(limit), &mut out, steps);
+            let end = run(&mut machine, bytes_within(form.limit), &mut out, steps);
             FitEnd::of(machine.0, status_of(end))
         }
     }

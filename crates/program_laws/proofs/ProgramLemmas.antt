@@ -47,7 +47,7 @@ use Rattle.fixed_command.specs.Limits.{limit_of, whole_limit_of}
 use Rattle.fixed_command.specs.LineBlocks.{IsLineBlock}
 use Rattle.fixed_command.specs.Products.{IsProduct}
 use Rattle.fixed_command.specs.Runs.{HasLineRun, IsWholeRun, TaskRuns, reported_extra, reported_per_byte}
-use Rattle.fixed_command.specs.declared.task.Task.TheVariants.{Ask, Columns, Constants, Convert, Enclose, Errors, LaidOut, LaidOutAsk, LaidOutLeast, Least, Lines, Reported}
+use Rattle.fixed_command.specs.declared.task.Task.TheVariants.{Ask, Columns, Constants, Convert, Enclose, Errors, LaidOut, LaidOutAsk, LaidOutEnclose, LaidOutLeast, LaidOutLines, Least, Lines, Reported}
 use Rattle.program_laws.specs.Laws.{ColumnsRunsAreTheOnes, EncloseRunsAreTheOnes, FormRunsAreTheOnes, LeastRunsAreTheOnes, ProgramRunsAreTheOnes, TaskRunsAreTheOnes}
 use Rattle.program_laws.specs.Runs.{RunsAreTheOnes}
 use Rattle.program_laws.proofs.LineLemmas.{calm_line_one, line_run_one}
@@ -105,6 +105,7 @@ module _ (report : ReportIsTheOne) where
 
     pub task_runs_one : TaskRunsAreTheOnes
     task_runs_one limit Lines = by_line cut respell.IsAnswer respell_one (limit_of limit) 8 624 (TaskRuns limit Lines) (λ before after s x. x)
+    task_runs_one limit (LaidOutLines layout) = by_line cut (AnswersLaidOut layout respell.IsAnswer) (laid_answer_one layout respell.IsAnswer respell_one) (limit_of limit) 8 624 (TaskRuns limit (LaidOutLines layout)) (λ before after s x. x)
     task_runs_one limit (Convert settings) = by_line cut (IsLineReply settings) (line_reply_one settings) (limit_of limit) 8 624 (TaskRuns limit (Convert settings)) (λ before after s x. x)
     task_runs_one limit (LaidOut laid) = by_line cut (IsLaidOut laid.layout (IsReply laid.rule)) (laid_out_one laid.layout (IsReply laid.rule) (reply_one laid.rule)) (limit_of limit) 8 624 (TaskRuns limit (LaidOut laid)) (λ before after s x. x)
     task_runs_one limit (Reported laid) = by_line cut (IsLaidOut laid.layout (IsReply laid.rule)) (laid_out_one laid.layout (IsReply laid.rule) (reply_one laid.rule)) (limit_of limit) reported_per_byte reported_extra (TaskRuns limit (Reported laid)) (λ before after s x. x)
@@ -112,6 +113,7 @@ module _ (report : ReportIsTheOne) where
     task_runs_one limit (LaidOutAsk form question layout) = by_line cut (AnswersLaidOut layout (IsLineBlock form question)) (laid_answer_one layout (IsLineBlock form question) (line_block_one form question)) (limit_of limit) 26 3307 (TaskRuns limit (LaidOutAsk form question layout)) (λ before after s x. x)
     task_runs_one limit (Errors lines) = by_line cut (IsErrorLine lines) (laid_out_one lines.layout (IsErrorReply lines.settings) (error_reply_one lines.settings)) (limit_of limit) 11 1565 (TaskRuns limit (Errors lines)) (λ before after s x. x)
     task_runs_one limit Enclose = by_line cut enclose.IsAnswer enclose_one (limit_of limit) 16 1248 (TaskRuns limit Enclose) (λ before after s x. x)
+    task_runs_one limit (LaidOutEnclose layout) = by_line cut (AnswersLaidOut layout enclose.IsAnswer) (laid_answer_one layout enclose.IsAnswer enclose_one) (limit_of limit) 16 1248 (TaskRuns limit (LaidOutEnclose layout)) (λ before after s x. x)
     task_runs_one limit (Least rule) = by_whole (IsLeastWritten rule) (least_written_one rule) (whole_limit_of limit) (TaskRuns limit (Least rule)) (λ before after s x. x)
     task_runs_one limit (LaidOutLeast rule layout) = by_whole (λ input. IsLeastWritten rule (laid_out (Some layout) input)) (λ input a b x y. least_written_one rule (laid_out (Some layout) input) a b x y) (whole_limit_of limit) (TaskRuns limit (LaidOutLeast rule layout)) (λ before after s x. x)
     task_runs_one limit (Constants rule) = by_whole (IsProduct (IsPlainAnswer (IsRenamedAnswer form))) (product_one (IsPlainAnswer (IsRenamedAnswer form)) plain)

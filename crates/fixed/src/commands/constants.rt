@@ -10,7 +10,8 @@ ghost use Rattle.fixed_arrays.specs.declared.rule.Numerals.{Numerals};
 
 use crate::commands::column::DECIMAL;
 use crate::commands::column_words::decimal_of;
-use crate::options::{LIMIT, MODE, OUTPUT, POLICY, RADIX};
+use crate::line_layout::{layout_asked, refuse_layout};
+use crate::options::{LIMIT, MODE, OUTPUT, PASS_BLANK, PASS_COMMENTS, POLICY, RADIX, TRIM};
 use crate::product::{Product, run_product};
 use crate::settings::{format_of, mode_of, policy_of, radix_of, refuse_value};
 use command_line::given::{Asked, Given, Refusal};
@@ -18,7 +19,7 @@ use command_line::page::{Operand, Page, Row};
 use fixed_arrays::{
     ArrayForm, ArrayRule, LiteralArrayRule, Numerals, is_array_name, is_c_name, is_kept,
 };
-use fixed_command::SwappedRule;
+use fixed_command::{Layout, SwappedRule};
 use fixed_constants::{Form, FormRule, is_guard};
 use fixed_steps::Steps;
 use line_engine::Status;
@@ -72,7 +73,18 @@ pub fn page() -> Page {
         operands: &[WORDS],
         has_numerals: false,
         options: &[
-            GUARD, NUMERALS, NAME, DECIMAL, RADIX, POLICY, MODE, LIMIT, OUTPUT,
+            GUARD,
+            NUMERALS,
+            NAME,
+            DECIMAL,
+            RADIX,
+            POLICY,
+            MODE,
+            TRIM,
+            PASS_BLANK,
+            PASS_COMMENTS,
+            LIMIT,
+            OUTPUT,
         ],
         end: "A line is NAME = LITERAL FORMAT, with any blanks, and a comment from '#' on.\n\
               \n\
@@ -231,7 +243,8 @@ fn refuse_list<'a>(given: &Given<'_, 'a>) -> Asked<'a, ()>
     refuse_of_list(given, &DECIMAL)?;
     refuse_of_list(given, &RADIX)?;
     refuse_of_list(given, &POLICY)?;
-    refuse_of_list(given, &MODE)
+    refuse_of_list(given, &MODE)?;
+    refuse_layout(given, FOR_NUMERALS)
 }
 
 /// Refuses the options of numerals for a list of named literals.
@@ -242,15 +255,35 @@ fn refuse_numerals<'a>(given: &Given<'_, 'a>) -> Asked<'a, ()>
     refuse_value(given, &DECIMAL, FOR_NUMERALS)?;
     refuse_value(given, &RADIX, FOR_NUMERALS)?;
     refuse_value(given, &POLICY, FOR_NUMERALS)?;
-    refuse_value(given, &MODE, FOR_NUMERALS)
+    refuse_value(given, &MODE, FOR_NUMERALS)?;
+    refuse_layout(given, FOR_NUMERALS)
+}
+
+/// Refuses a comment's prefix with a byte that is read as another one, since `decimal` comes before a fraction.
+fn refuse_swapped<'a>(given: &Given<'_, 'a>, decimal: u8) -> Asked<'a, ()> {
+    match given.value(&PASS_COMMENTS) {
+        Some(prefix)
+            if decimal != b'.'
+                && prefix
+                    .as_bytes()
+                    .iter()
+                    .any(|byte| *byte == b'.' || *byte == decimal) => {
+            Err(Refusal::Word(
+                prefix,
+                "has a point or the byte of --decimal, which begin no comment here",
+            ))
+        }
+        _ => Ok(()),
+    }
 }
 
 /// Returns the list of the numerals of all files, read into the format that a word names, in the form of `list`.
-fn numeral_list<'a>(
+fn numeral_list<'p, 'a: 'p>(
     given: &Given<'_, 'a>,
     word: &'a str,
-    list: LiteralArrayRule<'a>,
-) -> Asked<'a, Product<'a>> {
+    list: LiteralArrayRule<'p>,
+    layout: &'p Option<Layout>,
+) -> Asked<'a, Product<'p>> {
     let numerals = match numerals_of(given, word) {
         Ok(numerals) => numerals,
         Err(refusal) => return Err(refusal),
@@ -260,15 +293,23 @@ fn numeral_list<'a>(
         numerals,
         name: list.name,
         guard: list.guard,
+        layout,
     };
     match decimal_of(given) {
-        Ok(decimal) => Ok(Product::List(SwappedRule { rule, decimal })),
+        Ok(decimal) => {
+            refuse_swapped(given, decimal)?;
+            Ok(Product::List(SwappedRule { rule, decimal }))
+        }
         Err(refusal) => Err(refusal),
     }
 }
 
 /// Returns the list of the numerals of all files, or of their named literals if no numerals are requested.
-fn list_of<'a>(given: &Given<'_, 'a>, form: ArrayForm) -> Asked<'a, Product<'a>> {
+fn list_of<'p, 'a: 'p>(
+    given: &Given<'_, 'a>,
+    form: ArrayForm,
+    layout: &'p Option<Layout>,
+) -> Asked<'a, Product<'p>> {
     let guard = guard_of(given, is_c(form))?;
     let name = name_of(given, form, guard)?.as_bytes();
     let form = if guard.is_empty() {
@@ -279,7 +320,7 @@ fn list_of<'a>(given: &Given<'_, 'a>, form: ArrayForm) -> Asked<'a, Product<'a>>
     let guard = guard.as_bytes();
     let list = LiteralArrayRule { form, name, guard };
     match given.value(&NUMERALS) {
-        Some(word) => numeral_list(given, word, list),
+        Some(word) => numeral_list(given, word, list, layout),
         None => match refuse_numerals(given) {
             Ok(()) => Ok(Product::Literals(list)),
             Err(refusal) => Err(refusal),
@@ -294,7 +335,11 @@ fn run_list<'a, L: Ledger>(
     form: ArrayForm,
     steps: &mut Steps<L>,
 ) -> Asked<'a, Status> {
-    match list_of(given, form) {
+    let layout = match layout_asked(given) {
+        Ok(layout) => layout,
+        Err(refusal) => return Err(refusal),
+    };
+    match list_of(given, form, &layout) {
         Ok(product) => run_product(rt, &product, given, 1, steps),
         Err(refusal) => Err(refusal),
     }

@@ -1,7 +1,8 @@
 //! `fixed enclose`: answers the lines of `enclose_tool`.
 
 use crate::inputs::{Job, run_inputs};
-use crate::options::{LIMIT, OUTPUT};
+use crate::line_layout::layout_asked;
+use crate::options::{COMMENTS, LIMIT, OUTPUT, SKIP_BLANK, TRIM};
 use command_line::given::{Asked, Given};
 use command_line::page::{FILES, Page};
 use fixed_command::Task;
@@ -17,7 +18,7 @@ pub fn page() -> Page {
         usage: "fixed enclose [OPTIONS] [FILE]...",
         operands: &[FILES],
         has_numerals: false,
-        options: &[LIMIT, OUTPUT],
+        options: &[TRIM, SKIP_BLANK, COMMENTS, LIMIT, OUTPUT],
         end: "Example: echo '10 I4F4 3.14' | fixed enclose",
     }
 }
@@ -28,5 +29,10 @@ pub fn run<'a, L: Ledger>(
     given: &Given<'_, 'a>,
     steps: &mut Steps<L>,
 ) -> Asked<'a, Status> {
-    run_inputs(rt, &Job::Task(Task::Enclose), "", given, 0, steps)
+    let task = match layout_asked(given) {
+        Ok(None) => Task::Enclose,
+        Ok(Some(layout)) => Task::LaidOutEnclose(layout),
+        Err(refusal) => return Err(refusal),
+    };
+    run_inputs(rt, &Job::Task(task), "", given, 0, steps)
 }

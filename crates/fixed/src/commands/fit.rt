@@ -13,7 +13,8 @@ ghost use Rattle.fixed.specs.Lines.{IsKindAsked, IsKindWord};
 ghost use Rattle.fixed_bits.specs.Formats.{FormatParts};
 
 use crate::inputs::{Job, run_inputs};
-use crate::options::{LIMIT, OUTPUT, RADIX};
+use crate::line_layout::{layout_asked, refuse_layout};
+use crate::options::{LIMIT, OUTPUT, PASS_BLANK, PASS_COMMENTS, RADIX, TRIM};
 use crate::output::open_answers;
 use crate::settings::{radix_of, refuse_value};
 use command_line::device::{Failure, Output, Writer};
@@ -21,8 +22,8 @@ use command_line::given::{Asked, Given, Refusal};
 use command_line::page::{FILES, Page, Row};
 use command_line::report::{Report, report_end};
 use fixed_bits::Format;
-use fixed_command::Limit;
-use fixed_fit::{FitEnd, Fractions, Question, Unfit, Widths, run_fit};
+use fixed_command::{Layout, Limit};
+use fixed_fit::{FitEnd, Fractions, InputForm, Question, Unfit, Widths, run_fit};
 use fixed_io::StdSink;
 use fixed_numeral::{Radix, scan};
 use fixed_respell::number_word;
@@ -34,6 +35,9 @@ use std::sync::ledger::Ledger;
 /// The greatest K in an error 2^-K.
 const MOST_POWER: u32 = 1000;
 
+/// Why an option for an input is refused beside a range.
+const NO_INPUT: &str = "is for an input: '--range' reads none";
+
 /// The question about a list.
 #[derive(Drop)]
 pub struct FitTask {
@@ -42,6 +46,8 @@ pub struct FitTask {
     error: Option<Vec<u8>>,
     /// The widths that a format within the error may have.
     widths: Widths,
+    /// What a line may have besides its numeral, if an option says so.
+    layout: Option<Layout>,
 }
 
 const WIDTH: Row = Row {
@@ -118,7 +124,20 @@ pub fn page() -> Page {
         operands: &[FILES],
         has_numerals: true,
         options: &[
-            WIDTH, ERROR, ANY, WHOLE, BEYOND, SIGNED, WHY, RANGE, RADIX, LIMIT, OUTPUT,
+            WIDTH,
+            ERROR,
+            ANY,
+            WHOLE,
+            BEYOND,
+            SIGNED,
+            WHY,
+            RANGE,
+            RADIX,
+            TRIM,
+            PASS_BLANK,
+            PASS_COMMENTS,
+            LIMIT,
+            OUTPUT,
         ],
         end: "A numeral fits a format where it is in range after rounding to nearest, ties to\n\
               even. The finest format has the greatest fraction length. It is signed exactly\n\
@@ -397,12 +416,16 @@ fn answer_list<S: Source, K: Sink, L: Ledger>(
 ) -> FitEnd {
     let question = &task.question;
     let widths = Some(task.widths);
+    let form = InputForm {
+        limit,
+        layout: &task.layout,
+    };
     match &task.error {
-        None => run_fit(rt.alloc(), limit, question, None, &[], source, sink, steps),
+        None => run_fit(rt.alloc(), &form, question, None, &[], source, sink, steps),
         Some(error) => match scan(error, question.radix, steps) {
             Ok(_) => run_fit(
                 rt.alloc(),
-                limit,
+                &form,
                 question,
                 widths,
                 error,
@@ -470,7 +493,8 @@ fn run_range<'a, L: Ledger>(
     given: &Given<'_, 'a>,
     steps: &mut Steps<L>,
 ) -> Asked<'a, Status> {
-    refuse_value(given, &LIMIT, "is for an input: '--range' reads none")?;
+    refuse_layout(given, NO_INPUT)?;
+    refuse_value(given, &LIMIT, NO_INPUT)?;
     match given.from(0) {
         [low, high] => {
             let bytes = ends_of(rt.alloc(), low, high)?;
@@ -531,6 +555,10 @@ pub fn run<'a, L: Ledger>(
         Ok(kind) => kind,
         Err(refusal) => return Err(refusal),
     };
+    let layout = match layout_asked(given) {
+        Ok(layout) => layout,
+        Err(refusal) => return Err(refusal),
+    };
     let radix = radix_of(given)?;
     let task = FitTask {
         question: Question {
@@ -542,6 +570,7 @@ pub fn run<'a, L: Ledger>(
         },
         error: error_of(rt.alloc(), given, radix, steps)?,
         widths: widths_of(given)?,
+        layout,
     };
     if given.has(&RANGE) {
         return run_range(rt, &task, given, steps);

@@ -1,7 +1,8 @@
 //! `fixed lines`: answers the lines of `fixed_tool`.
 
 use crate::inputs::{Job, run_inputs};
-use crate::options::{LIMIT, OUTPUT};
+use crate::line_layout::layout_asked;
+use crate::options::{COMMENTS, LIMIT, OUTPUT, SKIP_BLANK, TRIM};
 use command_line::given::{Asked, Given};
 use command_line::page::{FILES, Page};
 use fixed_command::Task;
@@ -17,7 +18,7 @@ pub fn page() -> Page {
         usage: "fixed lines [OPTIONS] [FILE]...",
         operands: &[FILES],
         has_numerals: false,
-        options: &[LIMIT, OUTPUT],
+        options: &[TRIM, SKIP_BLANK, COMMENTS, LIMIT, OUTPUT],
         end: "Example: echo '10 I16F16 I8F8 checked 3.14159' | fixed lines",
     }
 }
@@ -28,5 +29,10 @@ pub fn run<'a, L: Ledger>(
     given: &Given<'_, 'a>,
     steps: &mut Steps<L>,
 ) -> Asked<'a, Status> {
-    run_inputs(rt, &Job::Task(Task::Lines), "", given, 0, steps)
+    let task = match layout_asked(given) {
+        Ok(None) => Task::Lines,
+        Ok(Some(layout)) => Task::LaidOutLines(layout),
+        Err(refusal) => return Err(refusal),
+    };
+    run_inputs(rt, &Job::Task(task), "", given, 0, steps)
 }

@@ -1,6 +1,8 @@
 -- What is known while an input is read.
-use Rattle.std.specs.Prelude.{◌≡◌, ℕ, List, max, true, None}
+use Rattle.std.specs.Prelude.{◌≡◌, ℕ, List, map, max, true, None, Option}
 use Rattle.fixed_bits.specs.Ranges.{IsWidth}
+use Rattle.fixed_command.specs.LaidList.{laid}
+use Rattle.fixed_command.specs.Layout.{LineLayout}
 use Rattle.fixed_error.specs.Errors.{HasGreatestErrors}
 use Rattle.fixed_error.specs.declared.errors.GreatestErrors.{GreatestErrors}
 use Rattle.fixed_numeral.specs.declared.radix.Radix.{Radix}
@@ -27,11 +29,13 @@ pub record AreKept (r : Radix) (a : Asked) (list : List (List ℕ)) (p : Progres
 abbrev pub HasLines : Radix → Asked → List (List ℕ) → Reader → Type 0
 HasLines r a list reader = AreKept r a list reader.progress reader.errors reader.within
 
--- the reader has what is kept of these bytes
-pub record HasRead (r : Radix) (a : Asked) (whole : List ℕ) (reader : Reader) : Type 0 where
+-- the reader has what is kept of these bytes, whose lines have this layout
+pub record HasRead (r : Radix) (a : Asked) (l : Option LineLayout) (whole : List ℕ) (reader : Reader) : Type 0 where
+  pub layout : reader.layout ≡ l
   pub line : reader.line.items ≡ unended whole
-  pub lines : HasLines r a (ended_lines whole) reader
+  pub lines : HasLines r a (map (laid l) (ended_lines whole)) reader
 
 -- the reader has what is kept of some bytes
 abbrev pub HasSomeRead : Reader → Type 0
-HasSomeRead reader = (r : Radix) × (a : Asked) × (whole : List ℕ) × HasRead r a whole reader
+HasSomeRead reader = (r : Radix) × (a : Asked) × (l : Option LineLayout) × (whole : List ℕ)
+    × HasRead r a l whole reader

@@ -35,3 +35,9 @@ returns-in-LaidOutAsk-clause-run g c = rw c.in-LaidOutAsk.is c.run_laid_question
 
 pub returns-in-LaidOutLeast-clause-run : goal.returns-in-LaidOutLeast-clause-run
 returns-in-LaidOutLeast-clause-run g c = rw c.in-LaidOutLeast.is c.run_laid_least.ensures.run
+
+pub returns-in-LaidOutLines-clause-run : goal.returns-in-LaidOutLines-clause-run
+returns-in-LaidOutLines-clause-run g c = rw c.in-LaidOutLines.is c.run_laid_words.ensures.run
+
+pub returns-in-LaidOutEnclose-clause-run : goal.returns-in-LaidOutEnclose-clause-run
+returns-in-LaidOutEnclose-clause-run g c = rw c.in-LaidOutEnclose.is c.run_laid_enclosures.ensures.run

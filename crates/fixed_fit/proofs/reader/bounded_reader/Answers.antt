@@ -10,5 +10,5 @@ returns-in-Ok g c =
     let widths = c.args.widths in
     let bound = c.args.bound.now in
     let most = c.most_width-most.ensures.most ∙ ap (λ (n : ℕ). most_width widths n) c.width-one.ensures.width in
-    subst (λ (n : ℕ). HasRead q.radix (bounded q.is_range n q.fractions bound widths q.kind.width) [] c.in-Ok.reader) most
+    subst (λ (n : ℕ). HasRead q.radix (bounded q.is_range n q.fractions bound widths q.kind.width) c.args.layout.now [] c.in-Ok.reader) most
     (c.in-Ok.ensures true q.is_range bound widths q.kind.width c.in_ok-within.ensures.is_bounded (λ _. c.in_ok-within.ensures.served c.most_width-most.result))

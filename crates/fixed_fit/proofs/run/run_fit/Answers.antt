@@ -4,6 +4,7 @@ use Rattle.run_engine.specs.LineStatus.{IsStatus}
 use Rattle.run_engine.specs.Machines.{going}
 use Rattle.run_engine.specs.Run.{HasRun}
 use Rattle.run_engine.specs.Seen.{Moment, Seen, moment, seen_of}
+use Rattle.fixed_command.specs.Layout.{LineLayout}
 use Rattle.fixed_command.specs.Limits.{limit_of}
 use Rattle.fixed_fit.specs.Inner.Reading.{HasRead}
 use Rattle.fixed_fit.specs.Run.{MakesBy, asked_by}
@@ -12,13 +13,14 @@ use Rattle.fixed_fit.specs.declared.question.Widths.{Widths}
 use Rattle.fixed_fit.specs.declared.reader.FitList.{FitList}
 use Rattle.fixed_fit.proofs.run.run_fit.Goals as goal
 
-fresh : (first : FitList) (q : Question) (widths : Option Widths) (bound : List ℕ) → first.question ≡ q → first.widths ≡ widths → first.bound.items ≡ bound → HasRead q.radix (asked_by q widths bound) [] first.reader → MakesBy first [] [] 0 going first
-fresh first q widths bound e f h read =
-    let Q : Question → Option Widths → List ℕ → Type 0 = λ q w b. HasRead q.radix (asked_by q w b) [] first.reader in
-    (refl, refl, refl, (refl, subst (λ q. Q q first.widths first.bound.items) (sym e) (subst (λ w. Q q w first.bound.items) (sym f) (subst (λ b. Q q widths b) (sym h) read))))
+fresh : (first : FitList) (l : Option LineLayout) (q : Question) (widths : Option Widths) (bound : List ℕ) → first.reader.layout ≡ l → first.question ≡ q → first.widths ≡ widths → first.bound.items ≡ bound → HasRead q.radix (asked_by q widths bound) l [] first.reader → MakesBy first [] [] 0 going first
+fresh first l q widths bound d e f h read =
+    let Q : Question → Option Widths → List ℕ → Type 0 = λ q w b. HasRead q.radix (asked_by q w b) first.reader.layout [] first.reader in
+    let here : Q q widths bound = subst (λ k. HasRead q.radix (asked_by q widths bound) k [] first.reader) (sym d) read in
+    (refl, refl, refl, (refl, subst (λ q. Q q first.widths first.bound.items) (sym e) (subst (λ w. Q q w first.bound.items) (sym f) (subst (λ b. Q q widths b) (sym h) here))))
 
 pub run-end-requires-clause-fresh : goal.run-end-requires-clause-fresh
-run-end-requires-clause-fresh g c = let is = c.in-Ok.ensures in fresh c.in-Ok.list c.args.question.now c.args.widths c.args.bound.now is.question is.widths is.bound is.read
+run-end-requires-clause-fresh g c = let is = c.in-Ok.ensures in fresh c.in-Ok.list c.args.form.now.layout.now c.args.question.now c.args.widths c.args.bound.now is.read.layout is.question is.widths is.bound is.read
 
 pub returns-in-Ok : goal.returns-in-Ok
 returns-in-Ok g c =
@@ -37,7 +39,7 @@ returns-in-Ok g c =
     ∙ ap (λ i. seen c.source-1.given.0 c.sink-1.given.0 i end.sink.ghost_name) c.run-end.ensures.same.source
     ∙ ap (λ j. seen c.source-1.given.0 c.sink-1.given.0 m j) c.run-end.ensures.same.sink in
     let first = c.in-Ok.list in
-    let at : Moment → Moment → Type 0 = λ x y. HasRun (λ bytes text spent how it. MakesBy first bytes text spent how it.0) c.run-end.new.machine (limit_of c.args.limit.now) x y c.run-end.result in
+    let at : Moment → Moment → Type 0 = λ x y. HasRun (λ bytes text spent how it. MakesBy first bytes text spent how it.0) c.run-end.new.machine (limit_of c.args.form.now.limit.now) x y c.run-end.result in
     let steps = c.new.new.steps in
     let then = c.run-end.new.steps in
     let held = c.run-end.new.out.text in
@@ -53,6 +55,7 @@ returns-in-Ok g c =
       question_is = c.in-Ok.ensures.question;
       widths_are = c.in-Ok.ensures.widths;
       bound_is = c.in-Ok.ensures.bound;
+      layout_is = c.in-Ok.ensures.read.layout;
       ends = subst (IsStatus c.run-end.result) (sym c.of.ensures.status) c.status_of.ensures;
       run = subst (λ s. at (moment (seen c.args.source.now c.args.sink.now m n) [] steps) (moment s held then)) after
           (subst (λ s. at (moment s [] steps) (moment b held then)) before (subst (λ t. at (moment a t steps) (moment b held then)) c.new-out.ensures.text (subst (λ limit. HasRun (λ bytes text spent how it. MakesBy first bytes text spent how it.0) c.run-end.new.machine limit (moment a c.new-out.result.text steps) (moment b held then) c.run-end.result) c.bytes_within.ensures.value c.run-end.ensures)));

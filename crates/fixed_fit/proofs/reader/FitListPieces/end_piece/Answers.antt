@@ -12,7 +12,7 @@ pub end_line-requires : goal.end_line-requires
 end_line-requires g c =
     let k = c.requires.known in
     let q = k.0.question in
-    (q.radix, asked_by q k.0.widths k.0.bound.items, k.1, k.4.3.1)
+    (q.radix, asked_by q k.0.widths k.0.bound.items, k.0.reader.layout, k.1, k.4.3.1)
 
 pub returns-in-Err : goal.returns-in-Err
 returns-in-Err g c = λ first bytes made spent makes.
@@ -40,4 +40,4 @@ returns-in-Ok g c = λ first bytes made spent makes.
     let done = c.in-Ok.ensures in
     subst (λ n. Goes (MakesBy first) bytes made spent (part ++ n ∷ []) going new (moment seen c.args._out.now.text c.args.steps.now) (moment seen c.args._out.now.text cost)) (sym (ten c.args._byte c.requires.byte))
     (silent first new bytes made next spent going seen c.args._out.now.text c.args.steps.now cost
-    (makes_on first old new bytes made next spent (spent + cost) makes refl refl refl (λ h. line_read r a bytes part old.reader new.reader (quiet_of part c.requires.part) done.line (λ m l k. done.ended r m l k) h)))
+    (makes_on first old new bytes made next spent (spent + cost) makes refl refl refl (λ h. line_read r a first.reader.layout bytes part old.reader new.reader (quiet_of part c.requires.part) done.line done.layout (λ m l k. done.ended r m l k) h)))

@@ -1,4 +1,5 @@
-use Rattle.std.proofs.Common.{◌++◌, ◌+◌, [], arith, is_some, refl, subst, sym}
+use Rattle.std.proofs.Common.{◌++◌, ◌+◌, [], arith, is_some, map, refl, subst, sym}
+use Rattle.fixed_command.specs.LaidList.{laid}
 use Rattle.line_engine.specs.Lines.{lines}
 use Rattle.run_engine.specs.Machines.{finished, lacking}
 use Rattle.fixed_fit.specs.Run.{MakesBy, asked_by}
@@ -11,14 +12,14 @@ pub finish-requires : goal.finish-requires
 finish-requires g c =
     let k = c.requires.known in
     let q = k.0.question in
-    (q.radix, asked_by q k.0.widths k.0.bound.items, k.1, k.4.3.1)
+    (q.radix, asked_by q k.0.widths k.0.bound.items, k.0.reader.layout, k.1, k.4.3.1)
 
 pub answer-answer-requires : goal.answer-answer-requires
 answer-answer-requires g c =
     let k = c.requires.known in
     let old = c.args.self.now in
     let q = old.question in
-    (lines k.1, c.in-Ok.ensures q.radix (asked_by q old.widths old.bound.items) k.1 (own k.0 old k.1 k.2 k.3 k.4))
+    (map (laid k.0.reader.layout) (lines k.1), c.in-Ok.ensures q.radix (asked_by q old.widths old.bound.items) k.0.reader.layout k.1 (own k.0 old k.1 k.2 k.3 k.4))
 
 pub returns-in-Err : goal.returns-in-Err
 returns-in-Err g c = λ first bytes made spent makes.

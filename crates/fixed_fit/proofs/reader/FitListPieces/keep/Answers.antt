@@ -10,7 +10,7 @@ pub returns-in-Err : goal.returns-in-Err
 returns-in-Err g c = λ first bytes made spent makes.
     let old = c.args.self.now in
     let reader = old.reader in
-    let new : FitList = record { question = old.question; widths = old.widths; bound = old.bound; reader = record { line = c.extend.new.line; progress = reader.progress; errors = reader.errors; within = reader.within }; unfit = old.unfit } in
+    let new : FitList = record { question = old.question; widths = old.widths; bound = old.bound; reader = record { line = c.extend.new.line; progress = reader.progress; errors = reader.errors; within = reader.within; layout = reader.layout }; unfit = old.unfit } in
     let next = c.args.part.now in
     let cost = c.args._steps.now in
     record {
@@ -24,10 +24,10 @@ pub returns-in-Ok : goal.returns-in-Ok
 returns-in-Ok g c = λ first bytes made spent makes.
     let old = c.args.self.now in
     let reader = old.reader in
-    let new : FitList = record { question = old.question; widths = old.widths; bound = old.bound; reader = record { line = c.extend.new.line; progress = reader.progress; errors = reader.errors; within = reader.within }; unfit = old.unfit } in
+    let new : FitList = record { question = old.question; widths = old.widths; bound = old.bound; reader = record { line = c.extend.new.line; progress = reader.progress; errors = reader.errors; within = reader.within; layout = reader.layout }; unfit = old.unfit } in
     let next = c.args.part.now in
     let cost = c.args._steps.now in
     let r = first.question.radix in
     let a = asked_by first.question first.widths first.bound.items in
     silent first new bytes made next spent going (g.I.Streams.seen c.args._out.now.io) c.args._out.now.text cost cost
-    (makes_on first old new bytes made next spent (spent + cost) makes refl refl refl (λ h. part_read r a bytes next reader new.reader (quiet_of next c.requires.part) c.in-Ok.ensures (λ k. k) h))
+    (makes_on first old new bytes made next spent (spent + cost) makes refl refl refl (λ h. part_read r a first.reader.layout bytes next reader new.reader (quiet_of next c.requires.part) c.in-Ok.ensures refl (λ k. k) h))
