@@ -11,12 +11,14 @@ import re
 import sys
 
 import column
+from convert import BLANKS as SPACES
 from convert import word_of
 from harness import main, run
 from reference import WIDTHS, format_named, numeral_for
 
 LONGEST = 1_048_576
 DEEPEST = 128
+# The blanks of JSON; a skipped line has those of convert.
 BLANKS = b" \t\n\r"
 # What is passed over at the beginning of an input.
 MARK = b"\xef\xbb\xbf"
@@ -24,7 +26,8 @@ STEP = re.compile(r'\.(?P<name>[^."\[\]]+)|\."(?P<quoted>[^"]*)"|\[(?P<number>[0
 LINES = 250
 # What is asked for without options.
 PLAIN = {"from": "text", "radix": 10, "policy": b"checked", "mode": "nearest", "target_mode": "floor", "print": "text", "places": None, "trim": False,
-         "decimal": b".", "decimal_out": None, "thousands": b"", "groups": False, "empty": "fault", "keep": False, "skip_blank": False, "quotes": False}
+         "decimal": b".", "decimal_out": None, "thousands": b"", "groups": False, "empty": "fault", "keep": False, "skip_blank": False, "comments": b"",
+         "quotes": False}
 NAMES = ("a", "b", "ab", "a.b", "\\u0061", "\\\"", "", "é", "[0]", "nan", "{", "a b")
 WORDS = ("true", "false", "null", "0", "-0", "1e5", "1E-2", "-1.5e+3", "0.1", "12345678901234567890", "0." + "3" * 30, "1" * 70)
 # Neither is JSON.
@@ -128,7 +131,7 @@ def answer(line, steps, options):
     """The answer to a line; for a refused one the place of the value from 1, or 0, the refused text and the cause."""
     if len(line) > LONGEST:
         return b"error: line too long", (0, line, b"line too long")
-    if options["skip_blank"] and not line.strip(BLANKS):
+    if options["skip_blank"] and not line.strip(SPACES) or options["comments"] and line.lstrip(SPACES).startswith(options["comments"]):
         return line, None
     written, why = exchanged(line, steps, options)
     if why:
@@ -178,11 +181,13 @@ def options_for(pick):
         "policy": pick.choice((b"checked", b"checked", b"saturating", b"wrapping")), "mode": pick.choice(("nearest", "floor", "ceil", "zero")),
         "target_mode": pick.choice(("nearest", "floor", "zero")), "print": pick.choice(("text", "text", "bits", "hex", "readmemh", "value", "all")),
         "trim": pick.random() < 0.3, "keep": pick.random() < 0.3, "skip_blank": pick.random() < 0.3,
+        "comments": pick.choice((b"", b"", b"#", b"//", b"[", b"{\"a")),
     }
     options["quotes"] = options["print"] in ("hex", "readmemh", "all")
     words = ["--from", options["from"], "--radix", str(options["radix"]), "--policy", options["policy"].decode(), "--mode", options["mode"]]
     words += ["--target-mode", options["target_mode"], "--print", options["print"]]
     words += ["--trim"] * options["trim"] + ["--keep"] * options["keep"] + ["--skip-blank"] * options["skip_blank"]
+    words += ["--comments", options["comments"].decode()] if options["comments"] else []
     return options, words
 
 
@@ -247,7 +252,7 @@ def line_for(pick, options, steps):
         depth = pick.choice((127, 128, 129, 400, 5000))
         text = "[" * depth + "1" + "]" * depth if pick.random() < 0.5 else '{"a":' * depth + "1" + "}" * depth
     elif kind == 3:
-        text = gap(pick)
+        text = gap(pick) + pick.choice(("", "", "\x0c", "# 1", "//"))
     line = text.encode(errors="surrogatepass").replace(b"\n", b" ")
     at = pick.randrange(len(line) + 1)
     if kind == 4:
@@ -277,7 +282,7 @@ def compare(path, pick, given, tally):
         tally.all_same(found.stdout.split(b"\n")[:-1], texts, [(where, line) for line in lines[: len(texts)]])
         tally.same((found.returncode, found.stderr[: len(told(refused))]), (1 if refused else 0, told(refused)), command)
         for (text, why), line in zip(wanted, lines):
-            tally.check(bool(why) or not text.strip(BLANKS) or text_of(text) is not None, f"{line!r}: an answer is no JSON: {text!r}", 0)
+            tally.check(bool(why) or text == line or text_of(text) is not None, f"{line!r}: an answer is no JSON: {text!r}", 0)
     malformed(path, tally)
 
 

@@ -4,6 +4,7 @@ use Rattle.command_line.specs.Words.{has_flag, word_at}
 use Rattle.command_line.specs.declared.given.Given.{Given}
 use Rattle.fixed_amounts.specs.declared.settings.AmountPrint.{AmountPrint}
 use Rattle.fixed_amounts.specs.declared.settings.AmountPrint.TheVariants as amounts
+use Rattle.fixed_command.specs.Layout.{LineLayout}
 use Rattle.fixed_command.specs.declared.print.Print.{Print}
 use Rattle.fixed_command.specs.declared.print.Print.TheVariants.{All, Bits, Hex, Places, Readmemh, Text, Value}
 use Rattle.json_lines.specs.Path.{PathStep, path_steps}
@@ -33,8 +34,8 @@ is_quoted_amount amounts.Hex = true
 is_quoted_amount amounts.HexDigits = true
 is_quoted_amount amounts.All = true
 
--- how values are exchanged and which lines stay
-pub record IsJsonFormAsked (given : Given) (quotes : Bool) (form : Form) : Type 0 where
+-- how values are exchanged and which lines stay, by a layout
+pub record IsJsonFormAsked (given : Given) (quotes : Bool) (layout : LineLayout) (form : Form) : Type 0 where
   pub quotes_is : form.quotes ≡ quotes
   pub keeps : form.keeps ≡ has_flag given (codes "keep")
-  pub skips : form.skips_blank ≡ has_flag given (codes "skip-blank")
+  pub layout_is : form.layout.now ≡ layout

@@ -421,7 +421,7 @@ fn run_reader<R: Read + Drop, L: Ledger>(
         Job::AmountColumns(conversion) => {
             amounts::run_columns_on(rt, conversion, limit, file, reader, output, steps)
         }
-        Job::Json(job) => json::run_on(rt, job, file, reader, output, steps),
+        Job::Json(job) => json::run_on(rt, job, limit, file, reader, output, steps),
         Job::Fit(task) => {
             let mut source = StdSource::new(Unmarked::new(reader));
             fit::run_on(rt, task, limit, file, &mut source, output, steps)

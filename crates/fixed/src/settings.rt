@@ -75,7 +75,7 @@ pub fn format_of<'a>(word: &'a str) -> Asked<'a, Format>
 fn why_no_format(word: &str) -> &'static str {
     match decimal_format_named(word.as_bytes()) {
         Some(_) =>
-            "is a decimal format: convert, column, show, bits, format, pack and unpack take it, as SOURCE",
+            "is a decimal format: convert, column, json, show, bits, format, pack and unpack take it, as SOURCE",
         None => {
             "is not a format: I or U, whole bits, F, fraction bits, 1 to 64 in all; or as Q15, UQ8.8"
         }

@@ -2,10 +2,11 @@
 use Rattle.std.proofs.Common.{◌≡◌, ◌⊎◌, ◌↔◌, ◌∙◌, ◌==◌, ◌&&◌, ◌||◌, ◌+◌, ◌-◌, ◌<◌, ◌≤◌, ◌∷◌, ◌++◌, [], ℕ, zero, suc, Bool, true, false, IsTrue, List, ap, append-nil, append_assoc, arith, codes, drop, length, length-drop, lit≤, not, refl, subst, sym, take, true≢false}
 use Rattle.std.proofs.lemmas.Bool.{le-leb, lt-leb}
 use Rattle.std.proofs.lemmas.List.{drop-drop, drop_all, length-take, take_all}
+use Rattle.fixed_command.specs.Layout.{is_skipped}
 use Rattle.line_engine.proofs.Public.{nothing_kept, take_kept}
 use Rattle.line_engine.specs.AnswerText.{AnswerText}
 use Rattle.line_engine.specs.Lines.{kept_length}
-use Rattle.json_lines.specs.Answers.{AfterReply, AnswersFrom, AnswersPiece, AnswersShort, AnswersValues, IsJson, IsJsonAnswer, IsValueReply, RefusesLine, accepted, exchanged, fault_text, fitted, is_blank, kept, line_end, longest, onto, opens, refusal}
+use Rattle.json_lines.specs.Answers.{AfterReply, AnswersFrom, AnswersPiece, AnswersShort, AnswersValues, IsJson, IsJsonAnswer, IsValueReply, RefusesLine, accepted, exchanged, fault_text, fitted, kept, line_end, longest, onto, opens, refusal}
 use Rattle.json_lines.specs.Inner.Made.{IsHeld, IsMade, IsReplied, IsWhole, is_refused}
 use Rattle.json_lines.specs.Inner.Tracked.{Tracks}
 use Rattle.json_lines.specs.Path.{PathStep}
@@ -282,19 +283,19 @@ module _ (steps : List PathStep) (quotes : Bool) (A : List ℕ → AnswerText �
 -- ---- the answer to a line
 module _ (steps : List PathStep) (form : Form) (A : List ℕ → AnswerText → Type 0) where
   pub too_long : (line : List ℕ) → longest < length line → IsJsonAnswer steps form A line (refusal LineTooLong)
-  too_long line long = subst (λ b. AnswersShort b (form.skips_blank && is_blank line) steps form A line (refusal LineTooLong))
+  too_long line long = subst (λ b. AnswersShort b (is_skipped form.layout.now line) steps form A line (refusal LineTooLong))
       (sym (ap not (lt-leb (length line) longest long))) refl
 
   -- by whether the line stays as a blank one
-  short_by : (line : List ℕ) (answer : AnswerText) (blank : Bool) → length line ≤ longest → (form.skips_blank && is_blank line) ≡ blank → AnswersShort false blank steps form A line answer → IsJsonAnswer steps form A line answer
+  short_by : (line : List ℕ) (answer : AnswerText) (blank : Bool) → length line ≤ longest → (is_skipped form.layout.now line) ≡ blank → AnswersShort false blank steps form A line answer → IsJsonAnswer steps form A line answer
   short_by line answer blank short is answers =
-      subst (λ b. AnswersShort b (form.skips_blank && is_blank line) steps form A line answer) (sym (ap not (le-leb (length line) longest short)))
+      subst (λ b. AnswersShort b (is_skipped form.layout.now line) steps form A line answer) (sym (ap not (le-leb (length line) longest short)))
       (subst (λ b. AnswersShort false b steps form A line answer) (sym is) answers)
 
-  pub stays_blank : (line : List ℕ) → length line ≤ longest → (form.skips_blank && is_blank line) ≡ true → IsJsonAnswer steps form A line (accepted line)
-  stays_blank line short is = short_by line (accepted line) true short is refl
+  pub stays_skipped : (line : List ℕ) → length line ≤ longest → (is_skipped form.layout.now line) ≡ true → IsJsonAnswer steps form A line (accepted line)
+  stays_skipped line short is = short_by line (accepted line) true short is refl
 
-  pub read_line : (line : List ℕ) (read : AnswerText) → length line ≤ longest → (form.skips_blank && is_blank line) ≡ false
+  pub read_line : (line : List ℕ) (read : AnswerText) → length line ≤ longest → (is_skipped form.layout.now line) ≡ false
       → (RefusesLine line read ⊎ AnswersValues steps form.quotes A line read) → IsJsonAnswer steps form A line (kept form.keeps line read)
   read_line line read short is answers = short_by line (kept form.keeps line read) false short is (read, answers, refl)
 

@@ -1,5 +1,5 @@
 -- Lines answered one after the other.
-use Rattle.std.proofs.Common.{Err, Ok, Result, length-append, true, ◌≡◌, ◌∙◌, ◌&&◌, ◌||◌, ◌<◌, ◌≤◌, ◌∷◌, ◌++◌, [], ℕ, Bool, false, not, List, ap, append-nil, arith, length, map, refl, subst, sym, take, ⊎_elim}
+use Rattle.std.proofs.Common.{Err, Ok, Result, length-append, true, ◌≡◌, ◌∙◌, ◌||◌, ◌<◌, ◌≤◌, ◌∷◌, ◌++◌, [], ℕ, Bool, false, not, List, ap, append-nil, arith, length, map, refl, subst, sym, take, ⊎_elim}
 use Rattle.std.proofs.lemmas.Bool.{cases_lt, lt-leb}
 use Rattle.std.proofs.lemmas.List.{length-take, take_all}
 use Rattle.line_engine.proofs.Public.{AreAnswers-append, any_fault-append, ended_lines_line, ended_lines_quiet, nothing_kept, take_kept, unended_line, unended_quiet, written_of-append}
@@ -12,7 +12,8 @@ use Rattle.run_engine.specs.Seen.{Breaks, Moment, Puts}
 use Rattle.run_engine.specs.declared.machine.Halt.{Halt}
 use Rattle.run_engine.specs.declared.machine.Halt.TheVariants.{NoMemory, Stopped, WriteFault}
 use Rattle.std.specs.declared.convert.Infallible.{Infallible}
-use Rattle.json_lines.specs.Answers.{AnswersShort, IsJsonAnswer, is_blank, longest, refusal}
+use Rattle.fixed_command.specs.Layout.{is_skipped}
+use Rattle.json_lines.specs.Answers.{AnswersShort, IsJsonAnswer, longest, refusal}
 use Rattle.json_lines.specs.Inner.Made.{IsMade, is_refused}
 use Rattle.json_lines.specs.Inner.Progress.{EndsLine, LineEnds}
 use Rattle.json_lines.specs.Path.{step_of}
@@ -47,7 +48,7 @@ module _ {R : Type 0} (A : List ℕ → AnswerText → Type 0) where
       let steps = map step_of task.steps.now in
       let part = take kept_length line in
       let many : longest < length part = omega (arith, length-take kept_length line, long) in
-      let is : reply ≡ refusal LineTooLong = subst (λ b. AnswersShort b (task.form.skips_blank && is_blank part) steps task.form A part reply) (ap not (lt-leb (length part) longest many)) answer in
+      let is : reply ≡ refusal LineTooLong = subst (λ b. AnswersShort b (is_skipped task.form.layout.now part) steps task.form A part reply) (ap not (lt-leb (length part) longest many)) answer in
       subst (IsJsonAnswer steps task.form A line) (sym is) (too_long steps task.form A line (omega (arith, long)))
 
   answer_kept : (task : JsonTask R) (line : List ℕ) (reply : AnswerText) → Answers A task (take kept_length line) reply → Answers A task line reply

@@ -1,10 +1,9 @@
 -- The answer to a line of JSON: the line with the values at a path exchanged.
 use Rattle.std.specs.Prelude.{◌≡◌, ◌⊎◌, ◌&&◌, ◌||◌, ◌==◌, ◌++◌, ℕ, zero, suc, Bool, true, false, not, List, []}
 use Rattle.std.specs.Prelude.{◌∷◌, IsSome, codes, if◌then◌else◌, length, nat_le}
-use Rattle.std.specs.List.{list_all}
 use Rattle.std.specs.Str.{IsUtf8}
 use Rattle.json.specs.Json.{document}
-use Rattle.json.specs.Word.{is_space}
+use Rattle.fixed_command.specs.Layout.{is_skipped}
 use Rattle.line_engine.specs.AnswerText.{AnswerText}
 use Rattle.json_lines.specs.Pieces.{after_piece, content, first_piece, head}
 use Rattle.json_lines.specs.Places.{Frame, after, is_at}
@@ -109,9 +108,7 @@ pub record RefusesLine (line : List ℕ) (answer : AnswerText) : Type 0 where
 abbrev pub kept : Bool → List ℕ → AnswerText → AnswerText
 kept keeps line answer = if keeps && answer.fault then record { text = line; fault = true } else answer
 
-abbrev pub is_blank : List ℕ → Bool
-is_blank line = list_all is_space line
-
+-- the answer to a line, by whether it is too long and whether it is skipped
 abbrev pub AnswersShort : Bool → Bool → List PathStep → Form → (List ℕ → AnswerText → Type 0) → List ℕ → AnswerText
     → Type 0
 AnswersShort true blank steps form A line answer = answer ≡ refusal LineTooLong
@@ -120,8 +117,8 @@ AnswersShort false false steps form A line answer = (read : AnswerText)
     × (RefusesLine line read ⊎ AnswersValues steps form.quotes A line read)
     × (answer ≡ kept form.keeps line read)
 
--- the answer to a line, by the meaning A of the reply to a value: a line that is too long is refused, a blank one may
--- stay, and another is refused or has its values exchanged
+-- the answer to a line, by the meaning A of the reply to a value: a line that is too long is refused, a skipped one
+-- stays, and another is refused or has its values exchanged
 abbrev pub IsJsonAnswer : List PathStep → Form → (List ℕ → AnswerText → Type 0) → List ℕ → AnswerText → Type 0
 IsJsonAnswer steps form A line answer = AnswersShort (not (nat_le (length line) longest))
-    (form.skips_blank && is_blank line) steps form A line answer
+    (is_skipped form.layout.now line) steps form A line answer

@@ -1,5 +1,5 @@
 -- The text made of lines, and what a run over the lines of an input leaves.
-use Rattle.std.specs.Prelude.{◌≡◌, ◌-◌, ◌^◌, ℕ, Bool, List, map, take}
+use Rattle.std.specs.Prelude.{◌≡◌, ℕ, Bool, List, map, take}
 use Rattle.std.specs.declared.convert.Infallible.{Infallible}
 use Rattle.line_engine.specs.AnswerText.{AnswerText}
 use Rattle.line_engine.specs.Lines.{ended_lines, kept_length, lines, unended}
@@ -17,10 +17,6 @@ use Rattle.json_lines.specs.Answers.{IsJsonAnswer}
 use Rattle.json_lines.specs.Path.{step_of}
 use Rattle.json_lines.specs.declared.splitter.JsonLines.{JsonLines}
 use Rattle.json_lines.specs.declared.task.JsonTask.{JsonTask}
-
--- the longest input, in bytes
-abbrev pub most_bytes : ℕ
-most_bytes = 2 ^ 62 - 1
 
 -- the meaning of a task: the answer to a line
 abbrev pub Answers : {R : Type 0} → (List ℕ → AnswerText → Type 0) → JsonTask R → List ℕ → AnswerText → Type 0
@@ -53,8 +49,8 @@ abbrev pub MakesBy : {R : Type 0} → (List ℕ → AnswerText → Type 0) → J
 MakesBy A first bytes text spent how last = (last.task ≡ first.task) × MakesLines (Answers A first.task.now) bytes text
     how last
 
--- what a run with this status has taken, made and written, by the meaning of a rule
-pub record HasJsonRun {R : Type 0} (A : R → List ℕ → AnswerText → Type 0) (task : JsonTask R)
+-- what a run within a limit with this status has taken, made and written, by the meaning of a rule
+pub record HasJsonRun {R : Type 0} (A : R → List ℕ → AnswerText → Type 0) (limit : ℕ) (task : JsonTask R)
     (before after : Outside) (status : Status) : Type 0 where
   pub first : JsonLines R
   pub last : Cut (JsonLines R)
@@ -66,4 +62,4 @@ pub record HasJsonRun {R : Type 0} (A : R → List ℕ → AnswerText → Type 0
   pub is_after : outside_at b ≡ after
   pub ends : IsStatus end status
   pub run : HasRun (λ bytes text spent how it. MakesBy (A first.task.now.rule.now) first bytes text spent how it.0)
-      last most_bytes a b end
+      last limit a b end

@@ -3,16 +3,16 @@
 ghost use Rattle.std.specs.Prelude.{◌≡◌, ◌≤◌, ◌↔◌, ◌&&◌, ◌⊎◌, ◌++◌, [], IfOk, IsTrue, OnOk, codes, false, length, map};
 ghost use Rattle.std.specs.Prelude.{take};
 ghost use Rattle.json_lines.specs.Answers.{AnswersValues, IsJson, IsJsonAnswer, IsValueReply, RefusesLine};
-ghost use Rattle.json_lines.specs.Answers.{exchanged, fault_text, fitted, is_blank, longest, opens};
+ghost use Rattle.json_lines.specs.Answers.{exchanged, fault_text, fitted, longest, opens};
 ghost use Rattle.json_lines.specs.Inner.Made.{IsHeld, IsMade, IsReplied, IsWhole, is_refused};
 ghost use Rattle.line_engine.specs.AnswerText.{AnswerText};
 ghost use Rattle.json_lines.specs.Path.{step_of};
 ghost use Rattle.line_engine.specs.Lines.{kept_length};
 
 use crate::fault::JsonFault;
-use crate::piece::{content, is_space, is_string, piece_end};
+use crate::piece::{content, is_string, piece_end};
 use crate::place::Place;
-use crate::task::{Form, JsonTask};
+use crate::task::JsonTask;
 use column_engine::{FieldRule, RecordBuffer};
 use fixed_steps::Steps;
 use json::{Scratch, is_valid};
@@ -79,20 +79,6 @@ fn is_json(line: &[u8], scratch: &mut Scratch) -> Result<bool, AllocError>
         Err(_) => Ok(false),
         Ok(text) => is_valid(text, scratch),
     }
-}
-
-/// Whether each byte of a line is a blank.
-fn is_blank(line: &[u8]) -> bool
-    ensures { result ≡ is_blank line.now }
-{
-    line.iter().all(|byte| is_space(*byte))
-}
-
-/// Whether a line stays as a blank one.
-fn stays_blank(form: Form, line: &[u8]) -> bool
-    ensures { result ≡ (form.skips_blank && is_blank line.now) }
-{
-    form.skips_blank && is_blank(line)
 }
 
 /// Writes a refusal as the answer.
@@ -226,7 +212,7 @@ fn fit(refused: Refused, answer: &mut LineBuffer) -> Refused
     refused
 }
 
-/// Writes the answer to a line that is not too long and does not stay as a blank one.
+/// Writes the answer to a line that is not too long and not skipped.
 fn answer_read<A: FieldRule<L>, L: Ledger>(
     task: &JsonTask<'_, A>,
     line: &[u8],
@@ -263,7 +249,7 @@ pub fn answer_line<A: FieldRule<L>, L: Ledger>(
         refuse(JsonFault::LineTooLong, &mut space.answer);
         return Ok(Refused::Line(JsonFault::LineTooLong));
     }
-    if stays_blank(task.form, line) {
+    if task.form.layout.is_skipped(line) {
         space.answer.clear();
         space.answer.append(line);
         return Ok(Refused::No);

@@ -7,7 +7,7 @@ ghost use Rattle.json_lines.specs.Pieces.{begins_colon, begins_value, content, h
 ghost use Rattle.json_lines.specs.Pieces.{piece_length, string_rest};
 
 /// Whether a byte is a blank.
-pub(crate) fn is_space(byte: u8) -> bool
+fn is_space(byte: u8) -> bool
     ensures { result ≡ is_space byte }
 {
     (byte == b' ' || byte == b'\t') || (byte == b'\n' || byte == b'\r')

@@ -14,6 +14,8 @@ pub struct JsonRefusal {
     pub number: u64,
     /// The position of the refused value in it, from 1; or 0, if the line is refused as a whole.
     pub byte: u64,
+    /// The position in it, from 1, at which a line that is not JSON stops being so; or 0.
+    pub stop: u64,
     /// The first bytes of the value or of the line.
     pub text: TextBuffer<MAX_KEPT>,
     /// Whether that is all of it.
@@ -40,10 +42,11 @@ fn first_bytes(text: &[u8]) -> TextBuffer<MAX_KEPT> {
 }
 
 /// Returns the report of a refused text.
-fn refusal_of(number: u64, byte: u64, text: &[u8], cause: &[u8]) -> JsonRefusal {
+fn refusal_of(number: u64, byte: u64, stop: u64, text: &[u8], cause: &[u8]) -> JsonRefusal {
     JsonRefusal {
         number,
         byte,
+        stop,
         text: first_bytes(text),
         is_whole: text.len() <= MAX_KEPT,
         cause: first_bytes(cause),
@@ -51,17 +54,23 @@ fn refusal_of(number: u64, byte: u64, text: &[u8], cause: &[u8]) -> JsonRefusal 
 }
 
 /// Returns the report of a refused line, if it is refused.
-fn report_of(number: u64, refused: Refused, line: &[u8], reply: &[u8]) -> Option<JsonRefusal> {
+fn report_of(
+    number: u64,
+    refused: Refused,
+    stop: u64,
+    line: &[u8],
+    reply: &[u8],
+) -> Option<JsonRefusal> {
     match refused {
         Refused::No => None,
-        Refused::Line(fault) => Some(refusal_of(number, 0, line, fault.message())),
+        Refused::Line(fault) => Some(refusal_of(number, 0, stop, line, fault.message())),
         Refused::Value(at, end) => {
             let end = end.min(line.len());
             let at = at.min(end);
             let value = content(&line[at..end]);
             let before = if value.len() < end - at { 2 } else { 1 };
             let cause = reply.strip_prefix(b"error: ").unwrap_or(reply);
-            Some(refusal_of(number, at as u64 + before, value, cause))
+            Some(refusal_of(number, at as u64 + before, 0, value, cause))
         }
     }
 }
@@ -76,13 +85,14 @@ impl JsonRefusals {
         }
     }
 
-    /// Counts a line, and keeps the report of the first refused one, for which the rule wrote a reply.
-    pub fn note(&mut self, refused: Refused, line: &[u8], reply: &[u8]) {
+    /// Counts a line, and keeps the report of the first refused one, for which the rule wrote a reply. `stop` is where
+    /// it stops being JSON, from 1, or 0.
+    pub fn note(&mut self, refused: Refused, stop: u64, line: &[u8], reply: &[u8]) {
         self.lines = self.lines.saturating_add(1);
         if refused.is_refused() {
             self.count = self.count.saturating_add(1);
             if self.first.is_none() {
-                self.first = report_of(self.lines, refused, line, reply);
+                self.first = report_of(self.lines, refused, stop, line, reply);
             }
         }
     }

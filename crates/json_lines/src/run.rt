@@ -3,22 +3,20 @@
 ghost use Rattle.std.specs.Prelude.{◌≡◌, ◌⊎◌};
 ghost use Rattle.line_engine.specs.Program.{outside};
 ghost use Rattle.line_engine.specs.declared.status.Status.{Status};
+ghost use Rattle.fixed_command.specs.Limits.{limit_of};
 ghost use Rattle.json_lines.specs.Run.{HasJsonRun};
 
 use crate::refusals::{JsonRefusal, JsonRefusals};
 use crate::splitter::JsonLines;
 use crate::task::JsonTask;
 use column_engine::FieldRule;
-use fixed_command::status_of;
+use fixed_command::{Limit, bytes_within, status_of};
 use fixed_steps::Steps;
 use line_engine::{Sink, Source, Status};
 use run_engine::{Cut, Devices, Gathered, run};
 use std::alloc::Global;
 use std::mem;
 use std::sync::ledger::Ledger;
-
-/// The longest input, in bytes.
-pub const MOST_BYTES: u64 = 4_611_686_018_427_387_903;
 
 /// How a run over lines of JSON ended.
 #[derive(Drop)]
@@ -51,9 +49,11 @@ impl JsonEnd {
 /// is not JSON, if it has no value at the path, if one of its values is refused, or if it or its answer has more than
 /// 1,048,576 bytes. The answers to the lines that ended in a chunk of 4,096 bytes are written before the next is read.
 /// Before the first read it allocates a line, an answer and a record; afterwards only the reader of JSON allocates, at
-/// most the length of the longest line. It ends with `NoMemory` if that fails. An input of 2^62 bytes is too long.
+/// most the length of the longest line. It ends with `NoMemory` if that fails. An input is too long if it has more
+/// bytes than the limit or, without one, than 2^62.
 pub fn run_json<'a, A: FieldRule<L>, S: Source, K: Sink, L: Ledger>(
     alloc: Global,
+    limit: &Option<Limit>,
     task: &'a JsonTask<'a, A>,
     source: &mut S,
     sink: &mut K,
@@ -62,7 +62,7 @@ pub fn run_json<'a, A: FieldRule<L>, S: Source, K: Sink, L: Ledger>(
     // The bytes read, made and written, by status; which count of failures rose; and what reads requested; or there was
     // no memory before the first read.
     ensures { ((source.new ≡ source.old) × (sink.new ≡ sink.old) × (result.status ≡ Status.NoMemory))
-        ⊎ HasJsonRun (λ rule. A.Answers rule) task.now
+        ⊎ HasJsonRun (λ rule. A.Answers rule) (limit_of limit.now) task.now
         (outside (S.left source.old) (S.asked source.old) (S.failures source.old) (K.written sink.old)
         (K.failures sink.old) steps.old)
         (outside (S.left source.new) (S.asked source.new) (S.failures source.new) (K.written sink.new)
@@ -77,7 +77,7 @@ pub fn run_json<'a, A: FieldRule<L>, S: Source, K: Sink, L: Ledger>(
         Ok(lines) => {
             let mut machine = Cut(lines);
             let mut out = Gathered::new(Devices { source, sink });
-            let end = run(&mut machine, MOST_BYTES, &mut out, steps);
+            let end = run(&mut machine, bytes_within(limit), &mut out, steps);
             let refusals = mem::replace(&mut machine.0.refusals, JsonRefusals::new());
             JsonEnd::of(refusals, status_of(end))
         }

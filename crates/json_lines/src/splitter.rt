@@ -6,7 +6,9 @@ ghost use Rattle.json_lines.specs.Inner.Progress.{LineEnds};
 ghost use Rattle.json_lines.specs.Run.{Answers};
 
 use crate::answer::{Refused, Space, answer_line};
+use crate::fault::JsonFault;
 use crate::refusals::JsonRefusals;
+use crate::stop::stop_in;
 use crate::task::JsonTask;
 use column_engine::FieldRule;
 use fixed_steps::Steps;
@@ -56,8 +58,15 @@ impl<'a, A> JsonLines<'a, A> {
         ensures task { self.new.task ≡ self.old.task }
         ensures answer { self.new.space.answer ≡ self.old.space.answer }
     {
-        let (line, reply) = (self.line.as_slice(), self.space.reply.as_bytes());
-        self.refusals.note(refused, line, reply);
+        let line = self.line.as_slice();
+        let stop = match refused {
+            Refused::Line(JsonFault::NotJson) if self.refusals.first.is_none() => {
+                stop_in(line, &mut self.space.json)
+            }
+            _ => 0,
+        };
+        self.refusals
+            .note(refused, stop, line, self.space.reply.as_bytes());
         self.has_fault |= refused.is_refused();
     }
 

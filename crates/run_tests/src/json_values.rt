@@ -3,6 +3,7 @@
 ghost use Rattle.std.specs.Prelude.{◌≡◌, ◌<◌};
 
 use crate::columns::NoX;
+use fixed_command::Layout;
 use fixed_steps::Steps;
 use json_lines::{Form, JsonEnd, JsonTask, path_named, run_json};
 use line_engine::{MemorySink, MemorySource, NEVER, Status};
@@ -12,12 +13,12 @@ use std::process::Abort;
 use std::sync::ledger::{Blank, Ledger};
 use std::test::Fail;
 
-/// A run: the path, how values are exchanged, the input, which read and which write fails, the output, the status, how
-/// many lines are refused, and the line and the byte of the first of them.
+/// A run: the path, whether replies are quoted while refused lines, blank ones and comments stay, the input, which read
+/// and which write fails, the output, the status, how many lines are refused, and the line and byte of the first.
 #[derive(Drop)]
 struct Case {
     path: &'static [u8],
-    form: Form,
+    stays: bool,
     input: &'static [u8],
     failing_read: u64,
     failing_write: u64,
@@ -43,10 +44,18 @@ fn run_case<L: Ledger>(
         Ok(path) => path,
         Err(_) => Vec::new(alloc),
     };
+    // The prefix is not too long.
+    let Some(layout) = Layout::new(false, case.stays, b"//") else {
+        return Err(AllocError);
+    };
     let task = JsonTask {
         rule: &NoX,
         steps: &path,
-        form: case.form,
+        form: Form {
+            quotes: case.stays,
+            keeps: case.stays,
+            layout: &layout,
+        },
     };
     let most = most.max(1);
     let mut source = MemorySource::new(
@@ -59,7 +68,7 @@ fn run_case<L: Ledger>(
         most,
         vec![in alloc; case.failing_write]?,
     );
-    let end = run_json(alloc, &task, &mut source, &mut sink, &mut steps);
+    let end = run_json(alloc, &None, &task, &mut source, &mut sink, &mut steps);
     Ok((end, sink.written().to_vec(alloc)?))
 }
 
@@ -86,11 +95,7 @@ fn assert_runs(rt: &impl Abort, alloc: Global, cases: &[Case]) -> Result<(), All
 fn exchanged(path: &'static [u8], input: &'static [u8], written: &'static [u8]) -> Case {
     Case {
         path,
-        form: Form {
-            quotes: false,
-            keeps: false,
-            skips_blank: false,
-        },
+        stays: false,
         input,
         failing_read: NEVER,
         failing_write: NEVER,
@@ -258,26 +263,21 @@ fn a_line_without_a_value_at_the_path_is_refused(rt: HostRuntime) -> Result<(), 
 
 #[test]
 fn lines_stay_and_replies_are_quoted_where_that_is_asked(rt: HostRuntime) -> Result<(), Fail> {
-    let form = Form {
-        quotes: true,
-        keeps: true,
-        skips_blank: true,
-    };
     let cases = [
         Case {
-            form,
+            stays: true,
             ..exchanged(
                 b".a",
-                b"{\"a\":1}\n \t\r\n\n",
-                b"{\"a\":\"yes\"}\n \t\r\n\n",
+                b"{\"a\":1}\n \t\r\n\n //\n",
+                b"{\"a\":\"yes\"}\n \t\r\n\n //\n",
             )
         },
         Case {
-            form,
+            stays: true,
             ..refused(b".a", b"{\"a\":1\n", b"{\"a\":1\n", (1, 0))
         },
         Case {
-            form,
+            stays: true,
             ..refused(
                 b".a[]",
                 b"{\"a\":[1,\"x\"]}\n",

@@ -8,8 +8,10 @@ use crate::commands::amounts;
 use crate::commands::column_words::form_of;
 use crate::explained::push_explanation;
 use crate::inputs::{Job, is_last, run_inputs};
+use crate::line_layout::layout_of;
 use crate::options::{
-    FROM, MODE, OUTPUT, PLACES, PLACES_MODE, POLICY, PRINT, RADIX, SOURCE, TARGET, TARGET_MODE,
+    FROM, LIMIT, MODE, OUTPUT, PLACES, PLACES_MODE, POLICY, PRINT, RADIX, SOURCE, TARGET,
+    TARGET_MODE,
 };
 use crate::settings::{conversion, note_target_mode};
 use column_engine::FieldRule;
@@ -18,7 +20,7 @@ use command_line::given::{Asked, Given, Refusal};
 use command_line::page::{Operand, Page, Row};
 use command_line::report::{Report, report_end};
 use fixed_amounts::{AmountPrint, AmountSettings};
-use fixed_command::{ConvertRule, FieldForm, FieldNumerals, Offers, Print};
+use fixed_command::{ConvertRule, FieldForm, FieldNumerals, Layout, Limit, Offers, Print};
 use fixed_io::{StdSink, StdSource};
 use fixed_numeral::Radix;
 use fixed_steps::Steps;
@@ -50,6 +52,14 @@ const SKIP_BLANK: Row = Row {
     value: "",
     choices: &[],
     help: "A blank line stays as it was",
+};
+
+const COMMENTS: Row = Row {
+    name: "comments",
+    letter: None,
+    value: "PREFIX",
+    choices: &[],
+    help: "A line that begins with PREFIX stays as it was",
 };
 
 const KEEP: Row = Row {
@@ -86,7 +96,7 @@ pub struct JsonJob<'a> {
     /// The path to the values.
     steps: Vec<Step<'a>>,
     /// How they are exchanged.
-    form: Form,
+    form: Form<'a>,
 }
 
 pub fn page() -> Page {
@@ -108,7 +118,9 @@ pub fn page() -> Page {
             PLACES_MODE,
             TRIM,
             SKIP_BLANK,
+            COMMENTS,
             KEEP,
+            LIMIT,
             OUTPUT,
         ],
         end: "Each line is a JSON value. PATH leads from there to numbers, or strings that are\n\
@@ -162,13 +174,13 @@ fn is_quoted_amount(print: AmountPrint) -> bool
 }
 
 /// Returns how values are exchanged and which lines stay, from the options.
-fn json_form(given: &Given<'_, '_>, quotes: bool) -> Form
-    ensures { IsJsonFormAsked given.now quotes result }
+fn json_form<'l>(given: &Given<'_, '_>, quotes: bool, layout: &'l Layout) -> Form<'l>
+    ensures { IsJsonFormAsked given.now quotes layout.now result }
 {
     Form {
         quotes,
         keeps: given.has(&KEEP),
-        skips_blank: given.has(&SKIP_BLANK),
+        layout,
     }
 }
 
@@ -186,6 +198,25 @@ fn push_refusal(report: &mut Report, count: u64, first: &JsonRefusal) {
     report.bytes(first.text.as_bytes(), MAX_TEXT);
     report.text("': ");
     report.bytes(first.cause.as_bytes(), 160);
+    push_stop(report, first);
+}
+
+/// Appends where a line stops being JSON, with the byte there if it is kept.
+fn push_stop(report: &mut Report, first: &JsonRefusal) {
+    if first.stop == 0 {
+        return;
+    }
+    report.text(", byte ");
+    report.number(first.stop);
+    let text = first.text.as_bytes();
+    let index = (first.stop - 1) as usize;
+    if index < text.len() {
+        report.text(", '");
+        report.bytes(&text[index..=index], 1);
+        report.text("'");
+    } else if first.is_whole {
+        report.text(", where it ends");
+    }
 }
 
 /// Reports on standard error how many lines of an input were refused, with the first of them.
@@ -216,6 +247,7 @@ fn run_rule<A: FieldRule<L>, R: Read + Drop, L: Ledger>(
     rt: &HostRuntime,
     job: &JsonJob<'_>,
     rule: &A,
+    limit: &Option<Limit>,
     file: Option<&str>,
     reader: R,
     output: &mut Output,
@@ -232,7 +264,7 @@ fn run_rule<A: FieldRule<L>, R: Read + Drop, L: Ledger>(
         writer: output,
         failure: &failure,
     });
-    let end = run_json(rt.alloc(), &task, &mut source, &mut sink, steps);
+    let end = run_json(rt.alloc(), limit, &task, &mut source, &mut sink, steps);
     if !is_last(end.status) {
         if let Some(first) = &end.first {
             report_refused(rt, job, file, end.refused, first, steps);
@@ -246,6 +278,7 @@ fn run_rule<A: FieldRule<L>, R: Read + Drop, L: Ledger>(
 pub fn run_on<R: Read + Drop, L: Ledger>(
     rt: &HostRuntime,
     job: &JsonJob<'_>,
+    limit: &Option<Limit>,
     file: Option<&str>,
     reader: R,
     output: &mut Output,
@@ -258,7 +291,7 @@ pub fn run_on<R: Read + Drop, L: Ledger>(
                 radix: rule.settings().radix,
                 form: &job.spelling,
             };
-            run_rule(rt, job, &numerals, file, reader, output, steps)
+            run_rule(rt, job, &numerals, limit, file, reader, output, steps)
         }
         ValueRule::Amount(rule) => {
             let numerals = FieldNumerals {
@@ -266,7 +299,7 @@ pub fn run_on<R: Read + Drop, L: Ledger>(
                 radix: Radix::Dec,
                 form: &job.spelling,
             };
-            run_rule(rt, job, &numerals, file, reader, output, steps)
+            run_rule(rt, job, &numerals, limit, file, reader, output, steps)
         }
     }
 }
@@ -278,6 +311,10 @@ pub fn run<'a, L: Ledger>(
     steps: &mut Steps<L>,
 ) -> Asked<'a, Status> {
     let path = path_of(rt.alloc(), given)?;
+    let layout = match layout_of(given) {
+        Ok(layout) => layout,
+        Err(refusal) => return Err(refusal),
+    };
     let spelling = match form_of(given) {
         Ok(spelling) => spelling,
         Err(refusal) => return Err(refusal),
@@ -290,7 +327,7 @@ pub fn run<'a, L: Ledger>(
         rule,
         spelling,
         steps: path,
-        form: json_form(given, quotes),
+        form: json_form(given, quotes, &layout),
     });
     let format = given.needed(1, "SOURCE")?;
     run_inputs(rt, &job, format, given, files, steps)

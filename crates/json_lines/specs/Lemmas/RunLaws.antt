@@ -1,14 +1,15 @@
 -- A line of JSON has one answer, and lines have one text.
-use Rattle.std.proofs.Common.{◌≡◌, ◌⊎◌, ◌∙◌, ◌&&◌, ◌||◌, ℕ, zero, suc, Bool, true, false, not, List, []}
+use Rattle.std.proofs.Common.{◌≡◌, ◌⊎◌, ◌∙◌, ◌||◌, ℕ, zero, suc, Bool, true, false, not, List, []}
 use Rattle.std.proofs.Common.{◌∷◌, ap, inl, inr, length, nat_le, subst, sym}
 use Rattle.std.specs.declared.convert.Infallible.{Infallible}
+use Rattle.fixed_command.specs.Layout.{is_skipped}
 use Rattle.line_engine.proofs.Public.{answers_one}
 use Rattle.line_engine.specs.AnswerText.{AnswerText}
 use Rattle.line_engine.specs.Lines.{ended_lines, lines}
 use Rattle.line_engine.specs.Output.{any_fault, written_of}
 use Rattle.run_engine.specs.Machines.{Agree, How, going, finished, lacking, stopped}
 use Rattle.json_lines.specs.Answers.{AfterReply, AnswersFrom, AnswersPiece, AnswersShort, AnswersValues, IsJsonAnswer}
-use Rattle.json_lines.specs.Answers.{IsValueReply, RefusesLine, exchanged, fitted, is_blank, kept, longest, onto, opens}
+use Rattle.json_lines.specs.Answers.{IsValueReply, RefusesLine, exchanged, fitted, kept, longest, onto, opens}
 use Rattle.json_lines.specs.Path.{PathStep}
 use Rattle.json_lines.specs.Pieces.{after_piece, first_piece}
 use Rattle.json_lines.specs.Places.{Frame, after, is_at}
@@ -71,7 +72,7 @@ module _ (steps : List PathStep) (form : Form) (A : List ℕ → AnswerText → 
       ∙ (ap (kept form.keeps line) (read_one steps form.quotes A one line x.0 y.0 x.1 y.1) ∙ sym y.2)
 
   pub json_answer_one : IsOne (IsJsonAnswer steps form A)
-  json_answer_one line a b x y = short_one (not (nat_le (length line) longest)) (form.skips_blank && is_blank line) line
+  json_answer_one line a b x y = short_one (not (nat_le (length line) longest)) (is_skipped form.layout.now line) line
       a b x y
 
 -- lines have one text, and one of them was refused or not

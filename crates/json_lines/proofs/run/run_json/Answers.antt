@@ -1,7 +1,10 @@
-use Rattle.std.proofs.Common.{◌≡◌, ◌∙◌, ap, arith, inr, subst, sym}
+use Rattle.std.proofs.Common.{◌≡◌, ◌∙◌, ℕ, ap, arith, inr, subst, sym}
 use Rattle.std.proofs.lemmas.Grind.{common_steps}
 use Rattle.line_engine.specs.Program.{Outside, outside}
 use Rattle.run_engine.specs.LineStatus.{IsStatus}
+use Rattle.run_engine.specs.Run.{HasRun}
+use Rattle.run_engine.specs.Seen.{Moment, Seen, moment, seen_of}
+use Rattle.json_lines.specs.Run.{MakesBy}
 use Rattle.json_lines.proofs.run.run_json.Goals as goal
 
 pub returns-in-Ok : goal.returns-in-Ok
@@ -12,15 +15,21 @@ returns-in-Ok g c =
     let sink_first : ◌≡◌ {A = g.row.K.Denot} c.new-out.result.io.sink.now c.args.sink.now = grind (arith, common_steps, c.new-out.ensures.io) in
     let at : g.row.S.Denot → g.row.K.Denot → Outside = λ s k. outside (g.S.Source.left s) (g.S.Source.asked s) (g.S.Source.failures s) (g.K.Sink.written k) (g.K.Sink.failures k) c.args.steps.now in
     let then : g.row.S.Denot → g.row.K.Denot → Outside = λ s k. outside (g.S.Source.left s) (g.S.Source.asked s) (g.S.Source.failures s) (g.K.Sink.written k) (g.K.Sink.failures k) c.run-end.new.steps in
+    let seen : g.row.S.Denot → g.row.K.Denot → ℕ → ℕ → Seen = λ s k i j. seen_of (g.S.Source.left s) (g.S.Source.asked s) (g.S.Source.failures s) (g.K.Sink.written k) (g.K.Sink.failures k) i j in
+    let io = c.new-out.result.io in
+    let io' = c.run-end.new.out.io in
+    let a : Moment = moment (seen io.source.now io.sink.now io.source.ghost_name io.sink.ghost_name) c.new-out.result.text c.args.steps.now in
+    let b : Moment = moment (seen io'.source.now io'.sink.now io'.source.ghost_name io'.sink.ghost_name) c.run-end.new.out.text c.run-end.new.steps in
+    let first = c.in-Ok.lines in
     inr (record {
-      first = c.in-Ok.lines;
+      first = first;
       last = c.run-end.new.machine;
-      a = _;
-      b = _;
+      a = a;
+      b = b;
       end = c.run-end.result;
       is_first = c.in-Ok.ensures.task;
       is_before = ap (λ s. at s c.new-out.result.io.sink.now) source_first ∙ ap (λ k. at c.args.source.now k) sink_first;
       is_after = ap (λ s. then s c.run-end.new.out.io.sink.now) (sym source) ∙ ap (λ k. then c.source-1.given.0 k) (sym sink);
       ends = subst (IsStatus c.run-end.result) (sym c.of.ensures) c.status_of.ensures;
-      run = c.run-end.ensures;
+      run = subst (λ limit. HasRun (λ bytes text spent how it. MakesBy (g.A.FieldRule.Answers first.task.now.rule.now) first bytes text spent how it.0) c.run-end.new.machine limit a b c.run-end.result) c.bytes_within.ensures.value c.run-end.ensures;
     })
