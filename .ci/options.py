@@ -3,13 +3,17 @@
 
     options.py           writes the printed parts of completion/ and man/fixed.1
     options.py --check   names the files whose printed parts are not up to date
+    options.py --built FOLDER   names the options of which the help of FOLDER/fixed tells otherwise than the table
 
 The table is the program's: the pages of crates/fixed/src/commands/, with the rows and operands that they name. A
 printed part stands between two comments, "printed by make options: NAME" and "end of NAME"; all else is by hand.
+The table "option by command" of the manual also has the reason why a command that reads inputs does not take an option
+that others take for theirs. A hole without a reason, and a reason without a hole, stop the printing.
 """
 import dataclasses
 import os
 import re
+import subprocess
 import sys
 import textwrap
 
@@ -33,6 +37,35 @@ OPERANDS = {
 VALUES = {"FILE": "@files", "FORMAT": "@formats", "W": "8 16 32 64"}
 MARK = r"^(?P<mark>\S+) printed by make options: {0}\n(?:.*\n)*?(?P=mark) end of {0}\n"
 WIDEST = 80
+
+
+# The options for inputs, which hold for every command that reads some, unless a reason stands here: of these letters, by
+# the commands that do not take the option.
+NO_INPUT = ("format", "modes")
+REASONS = {
+    "a": "Raw words have no lines, blanks or text.",
+    "b": "A record stays as it is, and CSV has no comments.",
+    "c": "A line without a value has no place in the order, and spaces before a numeral are taken as they are.",
+    "d": "A line, a value or an operand is one word, or several of which each has its meaning.",
+    "e": "A list has one numeral a line.",
+    "f": "An answer does not take the place of its text.",
+    "g": "A refused line refuses its input, or ends it.",
+    "h": "Each answer tells whether it is exact and in range, or the error.",
+    "i": "Nothing is rounded, or nothing is written of a list with a refused line.",
+    "j": "The answer to a refused text says why.",
+    "k": "Values of JSON are not counted.",
+}
+HOLES = {
+    "output": {},
+    "limit": {},
+    "trim": {"a": "unpack repack", "c": "sort"},
+    "skip-blank": {"a": "unpack repack", "b": "column", "c": "sort"},
+    "comments": {"a": "unpack repack", "b": "column", "c": "sort"},
+    "words": {"a": "unpack repack", "d": "column json bits show lines enclose sort", "e": "least fit pack constants"},
+    "refused": {"j": "column json", "f": "bits show lines enclose unpack", "g": "least fit pack repack constants sort"},
+    "keep": {"f": "bits show lines enclose unpack", "g": "least fit pack repack constants sort"},
+    "report": {"h": "bits show lines enclose fit unpack", "i": "least constants sort", "k": "json"},
+}
 
 
 @dataclasses.dataclass(frozen=True)
@@ -357,6 +390,54 @@ def in_parentheses(commands, most=10):
     yield ".Pc"
 
 
+def reason(page, option):
+    """The letter of the reason why a command does not take an option for inputs; "+" if it takes it."""
+    if option in {row.name for row in page.options}:
+        return "+"
+    letters = [letter for letter, commands in HOLES[option].items() if page.name in commands.split()]
+    return letters[0] if len(letters) == 1 else None
+
+
+def wrong_holes(table):
+    """What is wrong in the reasons: holes without one, and reasons for what is no hole or no command."""
+    readers = {page.name: page for page in table if page.name not in NO_INPUT}
+    for option, reasons in HOLES.items():
+        yield from (f"no one reason why {name} does not take --{option}" for name in readers if not reason(readers[name], option))
+        told = [name for commands in reasons.values() for name in commands.split()]
+        yield from (f"a reason why {name} does not take --{option}, and no such command" for name in told if name not in readers)
+        yield from (f"a reason why {name} does not take --{option}, which it takes" for name in told
+                    if name in readers and reason(readers[name], option) == "+")
+    used = {letter for reasons in HOLES.values() for letter in reasons}
+    yield from (f"a reason {letter} that no hole has" for letter in REASONS if letter not in used)
+    yield from (f"no reason {letter}" for letter in sorted(used) if letter not in REASONS)
+
+
+def grid(table):
+    """The table "option by command" of the options for inputs, and the reasons of its holes."""
+    yield ".Bd -literal"
+    yield " ".join([" " * 9, *HOLES])
+    for page in table:
+        if page.name not in NO_INPUT:
+            yield " ".join([f"{page.name:<9}", *(f"{reason(page, option):^{len(option)}}" for option in HOLES)]).rstrip()
+    yield ".Ed"
+    yield ".Pp"
+    yield ".Bl -tag -width 3n -compact"
+    for letter, told in REASONS.items():
+        yield f".It {letter}"
+        yield from prose(told)
+    yield ".El"
+
+
+def told_otherwise(table, folder):
+    """The options of which the help of a command of the built program tells otherwise than the table."""
+    for page in table:
+        made = subprocess.run([f"{folder}/fixed", page.name, "--help"], capture_output=True, check=True, text=True)
+        shown = set(re.findall(r"^ +(?:-\w, )?--([a-z-]+)", made.stdout, re.M)) - {"help", "version"}
+        names = {row.name for row in page.options}
+        yield from (f"fixed {page.name}: the help has --{name}, and the table has not" for name in sorted(shown - names))
+        yield from (f"fixed {page.name}: the table has --{name}, and the help has not" for name in sorted(names - shown))
+
+
 def modes(table):
     """The rounding modes, with their names elsewhere, from the help of the command that lists them."""
     page = next(it for it in table if it.name == "modes")
@@ -379,12 +460,20 @@ PRINTED = {
     ("completion/fixed.fish", "completions"): lambda table: "\n".join(fish(table)) + "\n",
     ("man/fixed.1", "synopsis"): lambda table: "\n".join(synopsis(table)) + "\n",
     ("man/fixed.1", "options"): lambda table: "\n".join(options(table)) + "\n",
+    ("man/fixed.1", "option by command"): lambda table: "\n".join(grid(table)) + "\n",
     ("man/fixed.1", "modes"): lambda table: "\n".join(modes(table)) + "\n",
 }
 
 
 def main():
     table = list(pages())
+    wrong = list(wrong_holes(table))
+    if "--built" in sys.argv:
+        wrong += told_otherwise(table, sys.argv[sys.argv.index("--built") + 1])
+    for told in wrong:
+        print(f".ci/options.py: {told}")
+    if wrong or "--built" in sys.argv:
+        return 1 if wrong else 0
     stale = []
     for (path, name), made in PRINTED.items():
         old = text_of(path)

@@ -7,17 +7,18 @@ _fixed_options() {
   case $1 in
     convert) echo '--from --radix --policy --mode --target-mode --print --places --places-mode --trim --skip-blank --comments --limit --words --separators --refused --keep --report --output' ;;
     column) echo '--from --radix --policy --mode --target-mode --print --places --places-mode --delimiter --all --header --skip --trim --decimal --decimal-out --thousands --thousands-anywhere --empty --into --keep --limit --report --output' ;;
-    json) echo '--from --radix --policy --mode --target-mode --print --places --places-mode --trim --skip-blank --keep --output' ;;
+    json) echo '--from --radix --policy --mode --target-mode --print --places --places-mode --trim --skip-blank --comments --keep --limit --output' ;;
     bits) echo '--radix --field --swap --json --file --trim --skip-blank --comments --limit --output' ;;
     show) echo '--radix --policy --mode --json --file --trim --skip-blank --comments --limit --output' ;;
     format) echo '--json --output' ;;
-    lines | enclose | sort) echo '--limit --output' ;;
+    lines | enclose) echo '--trim --skip-blank --comments --limit --output' ;;
     least) echo '--why --trim --skip-blank --comments --limit --output' ;;
-    fit) echo '--width --error --any --whole --beyond --signed --why --range --radix --limit --output' ;;
+    fit) echo '--width --error --any --whole --beyond --signed --why --range --radix --trim --skip-blank --comments --limit --output' ;;
     pack) echo '--from --endian --radix --policy --mode --trim --skip-blank --comments --limit --report --output' ;;
     unpack) echo '--to --endian --policy --target-mode --print --places --places-mode --skip --count --limit --output' ;;
     repack) echo '--endian --endian-out --policy --target-mode --limit --report --output' ;;
-    constants) echo '--guard --numerals --name --decimal --radix --policy --mode --limit --output' ;;
+    constants) echo '--guard --numerals --name --decimal --radix --policy --mode --trim --skip-blank --comments --limit --output' ;;
+    sort) echo '--limit --output' ;;
   esac
 }
 # What may be typed after an option of a command, where it takes a value.
