@@ -11,6 +11,7 @@ import sys
 import tempfile
 
 from constants import RESERVED, answer, entry_of, line_for, type_shape
+from convert import laid_out, layout_for, numeral_of
 from harness import main, run
 from pack import MODES, POLICIES, clean_for, input_for, lines_of, shape_for, word_of
 from reference import WORDS, Refused, image, read_number, shortest
@@ -35,12 +36,15 @@ def element_width(shape):
     return next(width for width in (8, 16, 32, 64) if shape[1] <= width)
 
 
-def numbers_of(data, radix, shape, policy, mode):
+def numbers_of(data, radix, shape, policy, mode, layout):
     """The bits of an input's numerals; Refused with the line's number and the cause where one is refused, or there is none."""
     numbers = []
     for place, line in enumerate(lines_of(data), 1):
+        numeral = numeral_of(line, layout)
+        if numeral is None:
+            continue
         try:
-            numbers.append(image(policy, shape, read_number(line[:-1] if line.endswith(b"\r") else line, radix, shape[2], mode))[0])
+            numbers.append(image(policy, shape, read_number(numeral, radix, shape[2], mode))[0])
         except Refused as why:
             raise Refused(f"line {place}", WORDS[str(why)]) from why
     if not numbers:
@@ -360,13 +364,17 @@ def once(program, pick, is_read):
     words += [] if name is None else [f"--name={name}"]
     mark = pick.choice(".,;")
     words += [] if mark == "." and pick.randrange(2) else ["--decimal", mark]
+    layout, more = layout_for(pick) if mark == "." and pick.randrange(2) else ((False, False, ""), [])
+    if more:
+        data = b"".join(laid_out(pick, line) + b"\n" for line in lines_of(data))
+        words += more
     written = data.translate(bytes.maketrans(f".{mark}".encode(), f"{mark}.".encode()))
     ran = run(program, [*words, *(["--guard", guard] if guard else [])], written)
     shown = f"{' '.join(words)} {guard}, {written[:60]!r}: status {ran.returncode}, {ran.stdout[:60]!r}"
     if not is_name(form, name, guard):
         return None if (ran.returncode, ran.stdout) == (2, b"") else f"{shown}, not status 2"
     try:
-        numbers = numbers_of(data, radix, shape, policy.encode(), mode)
+        numbers = numbers_of(data, radix, shape, policy.encode(), mode, layout)
     except Refused as why:
         return refusal_of(ran, shown, why)
     return difference(ran, shown, form, array(form, numbers, shape, name, guard), (shape, name, numbers), is_read)
