@@ -414,12 +414,12 @@ def wrong_holes(table):
 
 def grid(table):
     """The table "option by command" of the options for inputs, and the reasons of its holes."""
-    yield ".Bd -literal"
-    yield " ".join([" " * 9, *HOLES])
+    yield f".Bl -column constants {' '.join(HOLES)} -compact"
+    yield f".It Ta {' Ta '.join(HOLES)}"
     for page in table:
         if page.name not in NO_INPUT:
-            yield " ".join([f"{page.name:<9}", *(f"{reason(page, option):^{len(option)}}" for option in HOLES)]).rstrip()
-    yield ".Ed"
+            yield f".It {page.name} Ta {' Ta '.join(reason(page, option) for option in HOLES)}"
+    yield ".El"
     yield ".Pp"
     yield ".Bl -tag -width 3n -compact"
     for letter, told in REASONS.items():

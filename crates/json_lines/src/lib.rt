@@ -1,8 +1,8 @@
 //! Lines of JSON: the values at a path are answered by a rule, and every other byte stays.
 //!
 //! `path` reads a path, `piece` cuts a line into its tokens, `place` knows in which members and elements they stand,
-//! and `answer` exchanges the values of a line; `stop` says where a line is not JSON. `splitter` is the machine that takes the bytes of an input, and `run`
-//! runs it over a source and a sink. What JSON is, the kit's reader decides.
+//! and `answer` exchanges the values of a line; `stop` says where a line is not JSON. `splitter` is the machine that
+//! takes the bytes of an input, and `run` runs it over a source and a sink. What JSON is, the kit's reader decides.
 #![tactic(auto)]
 
 pub mod answer;

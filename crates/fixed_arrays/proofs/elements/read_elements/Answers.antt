@@ -1,4 +1,4 @@
-use Rattle.std.proofs.Common.{◌≡◌, ◌≤◌, ℕ, List, None, Option, Some, length, arith}
+use Rattle.std.proofs.Common.{◌≡◌, ◌+◌, ◌≤◌, ℕ, List, None, Option, Some, length, arith}
 use Rattle.std.proofs.lemmas.Grind.{common_steps}
 use Rattle.line_engine.specs.Lines.{lines}
 use Rattle.fixed_arrays.specs.Answer.{numeral_in, numerals_in}
@@ -37,8 +37,8 @@ returns-clause-ok g c =
     let none : length c.loop-rest.rest.now ≡ 0 = grind (arith, common_steps, c.loop-rest-test.false, c.is_empty.ensures) in
     read_all c.args.rule.now c.args.input.now c.loop-rest.rest.now c.loop-rest.elements (none_of c.loop-rest.rest.now none) c.loop-rest.invariant.read
 
-pub returns-then-eq0-clause-err : goal.returns-then-eq0-clause-err
-returns-then-eq0-clause-err g c =
+pub returns-then-elements-eq0-clause-err : goal.returns-then-elements-eq0-clause-err
+returns-then-elements-eq0-clause-err g c =
     let none : length c.loop-rest.rest.now ≡ 0 = grind (arith, common_steps, c.loop-rest-test.false, c.is_empty.ensures) in
     let all = read_all c.args.rule.now c.args.input.now c.loop-rest.rest.now c.loop-rest.elements (none_of c.loop-rest.rest.now none) c.loop-rest.invariant.read in
-    no_elements c.args.rule.now (numerals_in c.args.rule.now.layout.now (lines c.args.input.now)) c.loop-rest.elements (omega (arith, c.if-eq0.true)) all
+    no_elements c.args.rule.now (numerals_in c.args.rule.now.layout.now (lines c.args.input.now)) c.loop-rest.elements (omega (arith, c.if-elements-eq0.true)) all
