@@ -10,7 +10,7 @@ ghost use Rattle.fixed_write.specs.Inner.Digits.{IsBlock, AppendsRounded, Append
 
 use crate::base::{push_digit, push_last_in, push_whole_in};
 use crate::digits::power_of_ten;
-use crate::printer::{HALF, rest_of, scaled, whole_of};
+use crate::printer::{HALF, is_raised, rest_of, scaled, whole_of};
 use fixed_bits::{LostFraction, ReadMode, rounding_increment};
 use text_buffer::TextBuffer;
 
@@ -70,7 +70,12 @@ pub(crate) fn rounded_part(rest: u64, scale: u64, above: u64, mode: ReadMode) ->
 {
     let (number, left) = scaled(rest, scale);
     let last = if scale == 1 { above } else { number };
-    number + rounding_increment(lost_fraction_of(left), last % 2, mode)
+    // The usual mode takes one comparison.
+    let up = match mode {
+        ReadMode::NearestEven => is_raised(left, last) as u64,
+        _ => rounding_increment(lost_fraction_of(left), last % 2, mode),
+    };
+    number + up
 }
 
 /// Rounds the value in a mode to the places of the scale.

@@ -264,7 +264,7 @@ pub(crate) const HALF: u64 = 1 << 63;
 
 /// Whether a number is raised: more than one half is left, or one half and the number is odd.
 #[inline]
-fn is_raised(left: u64, number: u64) -> bool
+pub(crate) fn is_raised(left: u64, number: u64) -> bool
     ensures { IsTrue result ↔ ((2 ^ 63 < left) ⊎ ((left ≡ 2 ^ 63) × (number % 2 ≡ 1))) }
 {
     left > HALF - number % 2
