@@ -2,6 +2,7 @@ pub mod LineLemmas
 pub mod WordLemmas
 pub mod FormatLemmas
 pub mod HexLemmas
+pub mod NibbleLemmas
 pub mod ShowLemmas
 pub mod NaturalLemmas
 pub mod DecimalLemmas

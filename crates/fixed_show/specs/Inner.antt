@@ -6,3 +6,4 @@ pub mod Words
 pub mod Powers
 pub mod ErrorTexts
 pub mod Measures
+pub mod Nibbles

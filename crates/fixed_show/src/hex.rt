@@ -1,29 +1,48 @@
 //! The last digits of a word in hexadecimal.
+//!
+//! The sixteen digits of a word are made in the lanes of a vector, and one store writes them. First the word is moved
+//! up so that its last digits come first. So digits need no loop and no branch on their count.
 
-ghost use Rattle.std.specs.Prelude.{◌≡◌, ◌+◌, ◌/◌, ◌^◌, ◌<◌, ◌≤◌, ◌++◌, false, length};
-ghost use Rattle.std.specs.Fmt.{digit_glyph};
+ghost use Rattle.std.specs.Prelude.{◌≡◌, ◌+◌, ◌-◌, ◌*◌, ◌%◌, ◌^◌, ◌≤◌, ◌++◌, false, length};
+ghost use Rattle.fixed_show.specs.Inner.Nibbles.{nibbles_of};
 ghost use Rattle.fixed_write.specs.Texts.{last_digits};
 
+use std::simd::prelude::*;
 use text_buffer::TextBuffer;
 
-/// Returns a digit of radix 16, in lower case.
-fn hex_digit(digit: u8) -> u8
-    requires { digit < 16 }
-    ensures { result ≡ digit_glyph false digit }
+/// Returns the sixteen nibbles of a word, the highest first.
+#[inline(always)]
+fn nibbles(word: u64) -> u8x16
+    ensures { result ≡ nibbles_of word }
 {
-    if digit < 10 {
-        b'0' + digit
-    } else {
-        b'a' + (digit - 10)
-    }
+    let bytes = u64x2::from_array([word, 0]).to_le_bytes();
+    let upper = bytes >> 4;
+    let lower = bytes & u8x16::splat(15);
+    upper.shuffle(
+        lower,
+        [7, 23, 6, 22, 5, 21, 4, 20, 3, 19, 2, 18, 1, 17, 0, 16],
+    )
 }
 
-/// Returns a word without its last `count` digits of radix 16.
+/// Returns the sixteen digits of a word, in lower case.
 #[inline(always)]
-fn without_digits(word: u64, count: u32) -> u64
-    ensures { result ≡ word / 16 ^ count }
+fn sixteen_digits(word: u64) -> [u8; 16]
+    ensures { result ≡ last_digits 16 false 16 word }
 {
-    if count < 16 { word >> (4 * count) } else { 0 }
+    let nibbles = nibbles(word);
+    let zeros = nibbles
+        .simd_gt(u8x16::splat(9))
+        .select(u8x16::splat(b'a' - 10), u8x16::splat(b'0'));
+    (nibbles + zeros).to_array()
+}
+
+/// Moves a word up until its last `count` digits come first.
+#[inline(always)]
+fn moved_up(word: u64, count: u32) -> u64
+    requires { count ≤ 16 }
+    ensures { result ≡ word * 2 ^ (64 - 4 * count) % 2 ^ 64 }
+{
+    ((u128::from(word) << (64 - 4 * count)) % (1 << 64)) as u64
 }
 
 /// Appends the last `count` digits of a word in radix 16, with leading zeros if it has fewer.
@@ -33,8 +52,9 @@ pub fn push_hex_digits<const N: usize>(out: &mut TextBuffer<N>, word: u64, count
     ensures length { length out.new ≡ length out.old + count }
 {
     let mut left = count;
-    while left > 0 {
+    while left > 16 {
+        out.push(b'0');
         left -= 1;
-        out.push(hex_digit((without_digits(word, left) % 16) as u8));
     }
+    out.push_prefix(sixteen_digits(moved_up(word, left)), left as usize);
 }
