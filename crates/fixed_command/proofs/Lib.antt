@@ -6,6 +6,7 @@ mod AskingLemmas
 mod BlockLemmas
 mod ColonLemmas
 mod ErrorLineLemmas
+mod ExactLemmas
 mod ExplainFieldLemmas
 mod ExplainLawLemmas
 mod FieldLemmas

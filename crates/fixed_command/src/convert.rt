@@ -3,7 +3,7 @@
 //! No line is made of these words and a numeral: it exists in the clauses only. Its length counts, so a numeral is too
 //! long exactly if that line is.
 
-ghost use Rattle.std.specs.Prelude.{◌≡◌, ◌↔◌, ◌+◌, ◌*◌, ◌-◌, ◌≤◌, ◌<◌, ◌++◌, [], ◌||◌, IfErr, IfOk, IsTrue};
+ghost use Rattle.std.specs.Prelude.{◌≡◌, ◌↔◌, ◌+◌, ◌*◌, ◌-◌, ◌/◌, ◌^◌, ◌≤◌, ◌<◌, ◌++◌, [], ◌||◌, IfErr, IfOk, IsTrue};
 ghost use Rattle.std.specs.Prelude.{MatchResult, false, length, true};
 ghost use Rattle.fixed_bits.specs.Formats.{IsFormat};
 ghost use Rattle.fixed_bits.specs.Numbers.{number_of_image};
@@ -19,10 +19,11 @@ ghost use Rattle.fixed_numeral.specs.Messages.{message_of};
 ghost use Rattle.fixed_respell.specs.Answer.{respelled_answer};
 ghost use Rattle.fixed_respell.specs.Language.{fault_answer};
 ghost use Rattle.fixed_respell.specs.LineWords.{longest_line};
-ghost use Rattle.fixed_write.specs.Places.{exact_text, rounded_text};
+ghost use Rattle.fixed_write.specs.Places.{IsExact, exact_text, rounded_text};
 ghost use Rattle.fixed_write.specs.Texts.{shortest_text};
 
 use crate::hex::{push_digits, push_hex};
+use crate::outcome::magnitude_of;
 use crate::print::Print;
 use crate::spelling::Spelling;
 use crate::words::{mode_name, policy_name, radix_name};
@@ -32,7 +33,7 @@ use fixed_numeral::{ParseErrorKind, ParseFixedError, Radix};
 use fixed_respell::{LineFault, format_name, push_fault, push_respelled, reached_image};
 use fixed_show::{Shown, read_shown, read_word};
 use fixed_steps::Steps;
-use fixed_write::{Base, push_decimal, push_exact, push_signed_integer, push_signed_shortest};
+use fixed_write::{push_decimal, push_signed_integer, push_signed_shortest};
 use line_engine::{LineRule, MAX_ANSWER, MAX_LINE, Output};
 use std::marker::Model;
 use std::sync::ledger::Ledger;
@@ -117,14 +118,26 @@ fn push_places<const N: usize>(
     push_decimal(out, bits, frac_of(format), places, mode);
 }
 
+/// Returns the fewest places that write a magnitude in ulps of 2^-`frac` exactly.
+fn exact_places(magnitude: u64, frac: u32) -> u32
+    requires { frac ≤ 64 }
+    ensures most { result ≤ frac }
+    ensures exact { IsExact 10 magnitude frac result (magnitude * 10 ^ result / 2 ^ frac) }
+{
+    frac.saturating_sub(magnitude.trailing_zeros())
+}
+
 /// Appends the exact value of bits of a format.
+// To a count of places: `push_exact` writes one digit after another.
 fn push_value<const N: usize>(out: &mut TextBuffer<N>, format: Format, bits: i128)
     requires wide { IsWide bits }
     requires room { length out.old + 130 ≤ N }
     ensures appended { out.new ≡ out.old ++ exact_text 10 false bits format.frac }
     ensures short { length out.new ≤ length out.old + 130 }
 {
-    push_exact(out, bits, frac_of(format), Base::Dec);
+    let frac = frac_of(format);
+    let places = exact_places(magnitude_of(bits), frac);
+    push_decimal(out, bits, frac, places, ReadMode::TowardsZero);
 }
 
 /// A format's fraction length.

@@ -55,7 +55,7 @@ fn is_multiple(number: u128, exponent: u32) -> bool
 }
 
 /// Returns the magnitude of a number of at most 64 bits.
-fn magnitude_of(number: i128) -> u64
+pub(crate) fn magnitude_of(number: i128) -> u64
     requires { IsWide number }
     ensures { result ≡ unsigned_abs number }
 {
