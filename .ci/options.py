@@ -3,7 +3,7 @@
 
     options.py           writes the printed parts of completion/ and man/fixed.1
     options.py --check   names the files whose printed parts are not up to date
-    options.py --built FOLDER   names the options of which the help of FOLDER/fixed tells otherwise than the table
+    options.py --built FOLDER   names the options of which the help of the built program tells otherwise than the table
 
 The table is the program's: the pages of crates/fixed/src/commands/, with the rows and operands that they name. A
 printed part stands between two comments, "printed by make options: NAME" and "end of NAME"; all else is by hand.
@@ -18,6 +18,9 @@ import sys
 import textwrap
 
 TOP = os.path.dirname(os.path.dirname(os.path.abspath(__file__)))
+sys.path.insert(0, f"{TOP}/oracle")
+from harness import program  # noqa: E402
+
 HOMES = {"crate": "crates/fixed/src", "command_line": "crates/command_line/src"}
 FORMATS = "I16F16 U16F16 I8F8 U8F8 I32F32 U32F32 I1F15 I1F31 I4F4 U0F8"
 # What may be typed for an operand: formats, files, names of columns, or these words. Of any other nothing is known.
@@ -428,10 +431,13 @@ def grid(table):
     yield ".El"
 
 
-def told_otherwise(table, folder):
+def told_otherwise(table, path):
     """The options of which the help of a command of the built program tells otherwise than the table."""
+    if not path:
+        print("fixed is not built, and so its help was not looked at")
+        return
     for page in table:
-        made = subprocess.run([f"{folder}/fixed", page.name, "--help"], capture_output=True, check=True, text=True)
+        made = subprocess.run([path, page.name, "--help"], capture_output=True, check=True, text=True)
         shown = set(re.findall(r"^ +(?:-\w, )?--([a-z-]+)", made.stdout, re.M)) - {"help", "version"}
         names = {row.name for row in page.options}
         yield from (f"fixed {page.name}: the help has --{name}, and the table has not" for name in sorted(shown - names))
@@ -469,7 +475,7 @@ def main():
     table = list(pages())
     wrong = list(wrong_holes(table))
     if "--built" in sys.argv:
-        wrong += told_otherwise(table, sys.argv[sys.argv.index("--built") + 1])
+        wrong += told_otherwise(table, program("fixed", sys.argv[sys.argv.index("--built") + 1]))
     for told in wrong:
         print(f".ci/options.py: {told}")
     if wrong or "--built" in sys.argv:

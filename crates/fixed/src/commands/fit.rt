@@ -63,7 +63,7 @@ const SIGNED: Row = Row {
     letter: None,
     value: "",
     choices: &[],
-    help: "Only signed formats, also where no numeral is below zero",
+    help: "Only signed formats, even if no numeral is negative",
 };
 
 const WHY: Row = Row {
@@ -71,7 +71,7 @@ const WHY: Row = Row {
     letter: None,
     value: "",
     choices: &[],
-    help: "Also what rules out the next finer format or lesser width",
+    help: "Also what rules out a finer format or lesser width",
 };
 
 const RANGE: Row = Row {
@@ -103,7 +103,7 @@ const WHOLE: Row = Row {
     letter: None,
     value: "N",
     choices: &[],
-    help: "At least N whole bits, a sign bit among them: 1 as in Q15",
+    help: "At least N whole bits, sign included: 1 as in Q15",
 };
 
 const BEYOND: Row = Row {
@@ -111,7 +111,7 @@ const BEYOND: Row = Row {
     letter: None,
     value: "",
     choices: &[],
-    help: "Also fractions longer than the width, of up to 64 bits",
+    help: "Also fractions longer than the width, up to 64 bits",
 };
 
 pub fn page() -> Page {
