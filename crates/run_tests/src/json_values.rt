@@ -48,14 +48,15 @@ fn run_case<L: Ledger>(
     let Some(layout) = Layout::new(false, case.stays, b"//") else {
         return Err(AllocError);
     };
+    let form = Form {
+        quotes: case.stays,
+        keeps: case.stays,
+        layout: &layout,
+    };
     let task = JsonTask {
         rule: &NoX,
         steps: &path,
-        form: Form {
-            quotes: case.stays,
-            keeps: case.stays,
-            layout: &layout,
-        },
+        form,
     };
     let most = most.max(1);
     let mut source = MemorySource::new(
