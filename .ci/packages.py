@@ -169,7 +169,7 @@ def check_packages(folders, version):
         os.environ["PACKAGES_ONLY"] = OTHERWISE["env"]["PACKAGES_ONLY"] = "1"
         twice(folders, ["packaging/deb.sh", version, *PROGRAMS])
         compared(f"build/deb/*_{version}_*.deb", *folders)
-    if found_with("build", "setuptools", "wheel"):
+    if found_with("build.__main__", "setuptools", "wheel"):
         twice(folders, ["packaging/wheel.sh", version, "build/lib/libfixed.so.1", "build/dist"])
         compared(f"build/dist/lomdeqash-{version}-*.whl", *folders)
     else:
