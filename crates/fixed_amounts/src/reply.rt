@@ -4,7 +4,7 @@ ghost use Rattle.std.specs.Prelude.{◌≡◌, ◌+◌, ◌*◌, ◌≤◌, ◌+
 ghost use Rattle.fixed_amounts.specs.Reply.{IsReply, fault_text, printed, unit_word};
 ghost use Rattle.fixed_respell.specs.Answer.{respelled_answer};
 ghost use Rattle.fixed_decimal.specs.Texts.{decimal_format_text};
-ghost use Rattle.fixed_respell.specs.Refusal.{refusal_message};
+ghost use Rattle.fixed_respell.specs.Refusal.{refusal_text};
 ghost use Rattle.fixed_show.specs.Blocks.{hex_text};
 ghost use Rattle.fixed_write.specs.Texts.{last_digits};
 ghost use Rattle.run_engine.specs.Reply.{Replies};
@@ -88,17 +88,17 @@ pub fn push_reply<const N: usize, L: Ledger>(
     bytes: &[u8],
     out: &mut TextBuffer<N>,
     steps: &mut Steps<L>,
-) -> Option<AmountRefusal>
+) -> Result<(), AmountRefusal>
     requires room { length out.old + MAX_ANSWER ≤ N }
-    ensures reply { Replies (IsReply settings.now) (refusal_message fault_text) MAX_ANSWER bytes.now out.old out.new
+    ensures reply { Replies (IsReply settings.now) (refusal_text fault_text) MAX_ANSWER bytes.now out.old out.new
         result }
     ensures cost { steps.new ≤ steps.old + 8 * length bytes.now + 128 }
 {
     match read_amount(settings, bytes, steps) {
         Ok(amount) => {
             push_part(out, settings.print, &amount, settings.format);
-            None
+            Ok(())
         }
-        Err(refusal) => Some(refusal),
+        Err(refusal) => Err(refusal),
     }
 }

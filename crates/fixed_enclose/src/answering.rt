@@ -18,11 +18,11 @@ ghost use Rattle.std.specs.Prelude.{
 };
 ghost use Rattle.std.specs.Fmt.{signed_decimal};
 ghost use Rattle.fixed_bits.specs.Ranges.{IsWide};
-ghost use Rattle.fixed_respell.specs.LineWords.{HasWords, longest_line, space};
+ghost use Rattle.fixed_respell.specs.LineWords.{HasWords, space};
 ghost use Rattle.fixed_respell.specs.Split.{count_of};
 ghost use Rattle.fixed_write.specs.Texts.{IsShortestText, shortest_text};
 ghost use Rattle.line_engine.specs.Appended.{AppendsAnswer};
-ghost use Rattle.fixed_respell.specs.Refusal.{refusal_message};
+ghost use Rattle.fixed_respell.specs.Refusal.{refusal_text};
 ghost use Rattle.run_engine.specs.Reply.{Replies};
 ghost use Rattle.fixed_enclose.specs.Answer.{
   Asks,
@@ -177,22 +177,22 @@ pub fn answer_or_refuse<const N: usize, L: Ledger>(
     line: &[u8],
     out: &mut TextBuffer<N>,
     steps: &mut Steps<L>,
-) -> Option<Refusal<EncloseFault>>
+) -> Result<(), Refusal<EncloseFault>>
     requires room { length out.old + 192 ≤ N }
-    ensures answer { Replies IsAnswer (refusal_message fault_message) 192 line.now out.old out.new result }
+    ensures answer { Replies IsAnswer (refusal_text fault_message) 192 line.now out.old out.new result }
     ensures cost { steps.new ≤ steps.old + 16 * length line.now + 1248 }
 {
     let task = match read_task(line) {
         Ok(task) => task,
-        Err(fault) => return Some(Refusal::Line(fault)),
+        Err(fault) => return Err(Refusal::Line(fault)),
     };
     match enclose(task.numeral, task.radix, task.format, steps) {
         Ok(ends) => {
             let exact = is_exact(ends.lo, ends.hi);
             push_ends(out, ends.lo, ends.hi, exact, task.format.frac(), steps);
-            None
+            Ok(())
         }
-        Err(error) => Some(Refusal::Numeral(error)),
+        Err(error) => Err(Refusal::Numeral(error)),
     }
 }
 
@@ -207,8 +207,8 @@ pub fn append_answer<const N: usize, L: Ledger>(
     ensures cost { steps.new ≤ steps.old + 16 * length line.now + 1248 }
 {
     match answer_or_refuse(line, out, steps) {
-        None => false,
-        Some(refusal) => {
+        Ok(()) => false,
+        Err(refusal) => {
             push_fault(out, refusal.words());
             true
         }

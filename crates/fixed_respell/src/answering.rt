@@ -1,8 +1,7 @@
 //! The answer to a line.
 
-ghost use Rattle.std.specs.Prelude.{◌≡◌, ◌≤◌, ◌<◌, ◌+◌, ◌*◌, ◌++◌, [], ◌-◌, ◌∷◌, drop, length, take, MatchOption};
+ghost use Rattle.std.specs.Prelude.{◌≡◌, ◌≤◌, ◌<◌, ◌+◌, ◌*◌, ◌++◌, [], ◌-◌, ◌∷◌, drop, length, take};
 ghost use Rattle.std.specs.Prelude.{MatchResult, IfOk};
-ghost use Rattle.std.specs.Fmt.{signed_decimal};
 ghost use Rattle.fixed_bits.specs.Numbers.{number_of_image};
 ghost use Rattle.fixed_write.specs.Texts.{IsShortestText, shortest_text};
 ghost use Rattle.line_engine.specs.Output.{AppendsAnswer};
@@ -17,8 +16,8 @@ ghost use Rattle.fixed_respell.specs.Answer.{
   verdict,
 };
 ghost use Rattle.fixed_respell.specs.Language.{fault_answer};
-ghost use Rattle.fixed_respell.specs.LineWords.{longest_line, space};
-ghost use Rattle.fixed_respell.specs.Refusal.{refusal_message};
+ghost use Rattle.fixed_respell.specs.LineWords.{space};
+ghost use Rattle.fixed_respell.specs.Refusal.{refusal_text};
 
 use crate::Answer;
 use crate::fault::LineFault;
@@ -143,21 +142,21 @@ pub fn answer_or_refuse<const N: usize, L: Ledger>(
     line: &[u8],
     out: &mut TextBuffer<N>,
     steps: &mut Steps<L>,
-) -> Option<Refusal<LineFault>>
+) -> Result<(), Refusal<LineFault>>
     requires room { length out.old + MAX_ANSWER ≤ N }
-    ensures answer { Replies IsAnswer (refusal_message fault_message) MAX_ANSWER line.now out.old out.new result }
+    ensures answer { Replies IsAnswer (refusal_text fault_message) MAX_ANSWER line.now out.old out.new result }
     ensures cost { steps.new ≤ steps.old + 8 * length line.now + 624 }
 {
     let task = match read_task(line) {
         Ok(task) => task,
-        Err(fault) => return Some(Refusal::Line(fault)),
+        Err(fault) => return Err(Refusal::Line(fault)),
     };
     match reach(line, &task, steps) {
         Ok(reached) => {
             push_respelled(out, reached, task.target.frac(), steps);
-            None
+            Ok(())
         }
-        Err(error) => Some(Refusal::Numeral(error)),
+        Err(error) => Err(Refusal::Numeral(error)),
     }
 }
 
@@ -173,8 +172,8 @@ pub fn append_answer<const N: usize, L: Ledger>(
     ensures cost { steps.new ≤ steps.old + 8 * length line.now + 624 }
 {
     match answer_or_refuse(line, out, steps) {
-        None => false,
-        Some(refusal) => {
+        Ok(()) => false,
+        Err(refusal) => {
             push_fault(out, refusal.words());
             true
         }

@@ -1,6 +1,6 @@
 //! The commands that the program's arguments request.
 
-ghost use Rattle.std.specs.Prelude.{◌≡◌, ◌≤◌, ◌<◌, ◌^◌, ℕ, length, MatchOption, IfSome, decimal};
+ghost use Rattle.std.specs.Prelude.{◌≡◌, ◌≤◌, ◌<◌, ◌^◌, ℕ, MatchOption, IfSome, decimal};
 ghost use Rattle.fixed_respell.specs.Command.{IsCommand, IsNumbered, IsUsageFault};
 ghost use Rattle.fixed_respell.specs.declared.command.Command.{Command};
 

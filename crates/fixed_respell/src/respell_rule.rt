@@ -1,15 +1,16 @@
 //! The rule of the program.
 
 ghost use Rattle.std.proofs.Common.{lit<};
-ghost use Rattle.fixed_respell.specs.Answer.{IsAnswer};
+ghost use Rattle.fixed_respell.specs.Answer.{IsAnswer, fault_message};
 ghost use Rattle.fixed_respell.specs.Lemmas.AnswerLemmas.{answer_one, long_by_its_prefix};
+ghost use Rattle.fixed_respell.specs.Refusal.{refusal_text};
 
 use crate::answering::answer_or_refuse;
 use crate::fault::LineFault;
 use crate::refusal::Refusal;
 use fixed_steps::Steps;
 use line_engine::{MAX_ANSWER, Output};
-use run_engine::{LineRule, Rule};
+use run_engine::{LineRule, Rule, push_error};
 use std::sync::ledger::Ledger;
 
 /// The rule that answers a line as `answer` does.
@@ -17,6 +18,8 @@ use std::sync::ledger::Ledger;
 pub struct RespellRule;
 
 impl<L: Ledger> Rule<L> for RespellRule {
+    type Note = ();
+
     type Cause = Refusal<LineFault>;
 
     const PER_BYTE: u64 = 8;
@@ -33,13 +36,21 @@ impl<L: Ledger> Rule<L> for RespellRule {
 
     ghost Answers = { λ rule. IsAnswer };
 
+    ghost Notes = { λ rule line note. Unit {0} };
+
+    ghost refusal = { λ rule. refusal_text fault_message };
+
     fn answer(
         &self,
         line: &[u8],
         out: &mut Output,
         steps: &mut Steps<L>,
-    ) -> Option<Refusal<LineFault>> {
+    ) -> Result<(), Refusal<LineFault>> {
         answer_or_refuse(line, out, steps)
+    }
+
+    fn push_refusal(&self, _line: &[u8], cause: &Refusal<LineFault>, out: &mut Output) {
+        push_error(cause, out);
     }
 
     ghost room_law = { lit< tt };

@@ -4,6 +4,7 @@ pub mod Public
 mod LineCountLemmas
 mod LineRunLemmas
 mod LineStatusLemmas
+mod LinesRunLemmas
 mod MachineLemmas
 mod PieceLemmas
 mod PutLemmas

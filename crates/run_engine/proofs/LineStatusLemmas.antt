@@ -1,5 +1,5 @@
 -- The outcome of a run over lines, and its status, in the terms of `line_engine`.
-use Rattle.std.proofs.Common.{◌≡◌, ◌⊎◌, ℕ, zero, suc, ◌+◌, ◌*◌, ◌≤◌, ◌||◌, Bool, true, false, List, [], ◌∷◌, ◌++◌, Option, length, take, drop, refl, sym, ap, ◌∙◌, subst, arith, inl, inr, append-nil, append_assoc, mul-le-mul_left}
+use Rattle.std.proofs.Common.{◌≡◌, ◌⊎◌, ℕ, zero, suc, ◌+◌, ◌*◌, ◌≤◌, ◌||◌, Bool, true, false, List, [], ◌∷◌, ◌++◌, length, take, drop, refl, sym, ap, ◌∙◌, subst, arith, inl, inr, append-nil, append_assoc, mul-le-mul_left}
 use Rattle.std.proofs.lemmas.List.{take_all, take-append-drop}
 use Rattle.std.specs.declared.convert.Infallible.{Infallible}
 use Rattle.std.specs.Io.KnownBytes.{Appends, IsAtEnd}
@@ -24,9 +24,9 @@ use Rattle.line_engine.proofs.Public.{ended_lines-append}
 use Rattle.run_engine.proofs.LineCountLemmas.{ended_within, lines_within}
 
 -- the meaning of the machine of lines
-abbrev pub LinesMake : {R W C : Type 0} → (List ℕ → AnswerText → Type 0) → (C → List ℕ) → (W → ℕ → List ℕ → Option C → W → Type 0) → ℕ → ℕ → Lines R W
+abbrev pub LinesMake : {R W T : Type 0} → (List ℕ → AnswerText → Type 0) → (List ℕ → AnswerText → T → Type 0) → (W → ℕ → List ℕ → T → W → Type 0) → ℕ → ℕ → Lines R W
     → List ℕ → List ℕ → ℕ → How Infallible → Cut (Lines R W) → Type 0
-LinesMake A message Saw per_byte extra first bytes text spent how last = MakesLines A message Saw per_byte extra first bytes text spent how last.0
+LinesMake A Is Saw per_byte extra first bytes text spent how last = MakesLines A Is Saw per_byte extra first bytes text spent how last.0
 
 -- no bytes are beyond the limit if all are within it
 nothing_after : (limit : ℕ) (bytes : List ℕ) → length bytes ≤ limit → drop limit bytes ≡ []
@@ -38,15 +38,15 @@ nothing_after limit [] fits = nothing_dropped limit
 nothing_after zero (b ∷ bytes) fits = absurd (omega arith)
 nothing_after (suc n) (b ∷ bytes) fits = nothing_after n bytes (omega arith)
 
-module _ {R W C : Type 0} (A : List ℕ → AnswerText → Type 0) (message : C → List ℕ) (Saw : W → ℕ → List ℕ → Option C → W → Type 0) (per_byte extra : ℕ) (first : Lines R W) (last : Cut (Lines R W)) (limit : ℕ) (a b : Moment) where
-  fault_of : first.has_fault ≡ false → (ls : List (List ℕ)) (text : List ℕ) (spent : ℕ) (fault : Bool) → (made : AnswersLines A message Saw per_byte extra first ls text spent last.0) → fault ≡ last.0.has_fault → any_fault made.replies ≡ fault
+module _ {R W T : Type 0} (A : List ℕ → AnswerText → Type 0) (Is : List ℕ → AnswerText → T → Type 0) (Saw : W → ℕ → List ℕ → T → W → Type 0) (per_byte extra : ℕ) (first : Lines R W) (last : Cut (Lines R W)) (limit : ℕ) (a b : Moment) where
+  fault_of : first.has_fault ≡ false → (ls : List (List ℕ)) (text : List ℕ) (spent : ℕ) (fault : Bool) → (made : AnswersLines A Is Saw per_byte extra first ls text spent last.0) → fault ≡ last.0.has_fault → any_fault made.replies ≡ fault
   fault_of none ls text spent fault made is = sym (is ∙ made.faulty ∙ ap (λ f. f || any_fault made.replies) none)
 
   -- writing was cut short
-  cut_short : Fails (LinesMake A message Saw per_byte extra first) last limit a b → OldRun A limit a.seen.left b.seen.left a.seen.written b.seen.written status.WriteFault
+  cut_short : Fails (LinesMake A Is Saw per_byte extra first) last limit a b → OldRun A limit a.seen.left b.seen.left a.seen.written b.seen.written status.WriteFault
   cut_short f = record { bytes = f.bytes; taken = f.consumed; cut_short = by f.how f.makes f.uses }
     where
-      by : (how : How Infallible) → LinesMake A message Saw per_byte extra first f.some f.text f.spent how last → UsesAll how limit f.bytes f.rest b.seen.left
+      by : (how : How Infallible) → LinesMake A Is Saw per_byte extra first f.some f.text f.spent how last → UsesAll how limit f.bytes f.rest b.seen.left
           → AnswersPrefix A (ended_lines (take limit f.bytes)) a.seen.written b.seen.written ⊎ (IsAtEnd b.seen.left × (length f.bytes ≤ limit) × AnswersPrefix A (lines f.bytes) a.seen.written b.seen.written)
       by going m u = inl (record {
         some = ended_lines f.some;
@@ -73,7 +73,7 @@ module _ {R W C : Type 0} (A : List ℕ → AnswerText → Type 0) (message : C 
       by lacking m u = absurd m
       by (stopped late why) m u = absurd m
 
-  pub has_run : first.has_fault ≡ false → (end : End Infallible) (s : Status) → IsStatus end s → HasRun (LinesMake A message Saw per_byte extra first) last limit a b end → OldRun A limit a.seen.left b.seen.left a.seen.written b.seen.written s
+  pub has_run : first.has_fault ≡ false → (end : End Infallible) (s : Status) → IsStatus end s → HasRun (LinesMake A Is Saw per_byte extra first) last limit a b end → OldRun A limit a.seen.left b.seen.left a.seen.written b.seen.written s
   has_run none Done s is run =
       let P : Status → Type 0 = OldRun A limit a.seen.left b.seen.left a.seen.written b.seen.written in
       let m = run.leaves.made in
@@ -129,14 +129,14 @@ module _ {R W C : Type 0} (A : List ℕ → AnswerText → Type 0) (message : C 
   has_run none (Stopped never) s is run = absurd is
 
   -- a bound of the steps for the bytes taken and their lines
-  spent_for : (ls : List (List ℕ)) (text : List ℕ) (spent : ℕ) (bytes : List ℕ) → AnswersLines A message Saw per_byte extra first ls text spent last.0 → bytes_in ls ≤ length bytes → length ls ≤ length (lines bytes)
+  spent_for : (ls : List (List ℕ)) (text : List ℕ) (spent : ℕ) (bytes : List ℕ) → AnswersLines A Is Saw per_byte extra first ls text spent last.0 → bytes_in ls ≤ length bytes → length ls ≤ length (lines bytes)
       → b.steps ≤ a.steps + spent → b.steps ≤ a.steps + per_byte * length bytes + extra * length (lines bytes)
   spent_for ls text spent bytes made few less steps =
       let x : per_byte * bytes_in ls ≤ per_byte * length bytes = mul-le-mul_left per_byte few in
       let y : extra * length ls ≤ extra * length (lines bytes) = mul-le-mul_left extra less in
       omega (arith, made.cost, steps, x, y)
 
-  by_how : (how : How Infallible) (used more taken text : List ℕ) (spent : ℕ) → taken ≡ used ++ more → UsesNext true how more → LinesMake A message Saw per_byte extra first used text spent how last → b.steps ≤ a.steps + spent
+  by_how : (how : How Infallible) (used more taken text : List ℕ) (spent : ℕ) → taken ≡ used ++ more → UsesNext true how more → LinesMake A Is Saw per_byte extra first used text spent how last → b.steps ≤ a.steps + spent
       → b.steps ≤ a.steps + per_byte * length taken + extra * length (lines taken)
   by_how going used more taken text spent cut uses m steps =
       let P : List ℕ → Type 0 = λ l. b.steps ≤ a.steps + per_byte * length l + extra * length (lines l) in
@@ -149,7 +149,7 @@ module _ {R W C : Type 0} (A : List ℕ → AnswerText → Type 0) (message : C 
   by_how lacking used more taken text spent cut uses m steps = absurd m
   by_how (stopped late why) used more taken text spent cut uses m steps = absurd m
 
-  spends : (how : How Infallible) (taken used more : List ℕ) → taken ≡ used ++ more → UsesNext true how more → length taken ≤ limit + 1 → Made (LinesMake A message Saw per_byte extra first) how last a b taken used
+  spends : (how : How Infallible) (taken used more : List ℕ) → taken ≡ used ++ more → UsesNext true how more → length taken ≤ limit + 1 → Made (LinesMake A Is Saw per_byte extra first) how last a b taken used
       → Spends limit per_byte extra a.seen.left b.seen.left a.steps b.steps
   spends how taken used more cut uses bound m = record {
     bytes = taken;
@@ -164,7 +164,7 @@ module _ {R W C : Type 0} (A : List ℕ → AnswerText → Type 0) (message : C 
   uses_of lacking bytes rest e u = tt
   uses_of (stopped late never) bytes rest e u = elim never [ ]
 
-  pub has_cost : (end : End Infallible) → HasRun (LinesMake A message Saw per_byte extra first) last limit a b end → Spends limit per_byte extra a.seen.left b.seen.left a.steps b.steps
+  pub has_cost : (end : End Infallible) → HasRun (LinesMake A Is Saw per_byte extra first) last limit a b end → Spends limit per_byte extra a.seen.left b.seen.left a.steps b.steps
   has_cost Done run = spends (finished false) run.leaves.input run.leaves.input [] (sym (append-nil run.leaves.input)) (refl, refl) (omega (arith, run.leaves.within)) run.leaves.made
   has_cost Faults run = spends (finished true) run.leaves.input run.leaves.input [] (sym (append-nil run.leaves.input)) (refl, refl) (omega (arith, run.leaves.within)) run.leaves.made
   has_cost ReadFault run = spends going run.leaves.bytes run.leaves.bytes [] (sym (append-nil run.leaves.bytes)) tt (omega (arith, run.leaves.within)) run.leaves.made

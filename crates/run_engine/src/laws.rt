@@ -14,6 +14,6 @@ pub fn run_is_the_one<M: Machine<L>, L: Ledger>(_machine: &M)
 {}
 
 /// `Refusals` that have seen lines keep the count of the refused lines and the first of them.
-pub fn first_refusal_is_kept<C>(_refusals: &Refusals<C>)
-    ensures { KeepsTheFirst _refusals.now }
+pub fn first_refusal_is_kept<N, C>(_refusals: &Refusals<C>, _note: &N)
+    ensures { KeepsTheFirst N _refusals.now }
 {}

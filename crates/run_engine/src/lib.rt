@@ -19,10 +19,10 @@ pub mod rule;
 pub mod streams;
 pub mod watch;
 
-pub use answering::answer_one;
+pub use answering::{answer_one, push_error};
 pub use engine::{End, run};
 pub use gathered::Gathered;
-pub use line_run::run_lines;
+pub use line_run::{LinesEnd, run_lines, run_watched, status_of};
 pub use lines::Lines;
 pub use machine::{Halt, Machine};
 pub use pieces::{Cut, Pieces, find_newline};

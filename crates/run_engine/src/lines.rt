@@ -1,10 +1,11 @@
 //! Lines, each answered by a rule and seen by an observer.
 
-ghost use Rattle.std.specs.Prelude.{◌≡◌, ◌≤◌, ◌<◌, ◌+◌, ◌*◌, ◌++◌, ◌∷◌, ◌||◌, [], Bool, IfOk, List, ℕ, OnErr, OnOk};
-ghost use Rattle.std.specs.Prelude.{false, length, take};
+ghost use Rattle.std.specs.Prelude.{◌≡◌, ◌≤◌, ◌<◌, ◌+◌, ◌*◌, ◌++◌, ◌∷◌, ◌||◌, [], Bool, List, ℕ, OnErr, OnOk};
+ghost use Rattle.std.specs.Prelude.{length, take};
 ghost use Rattle.line_engine.specs.Inner.Progress.{IsKept};
 ghost use Rattle.line_engine.specs.Lines.{kept_length};
 ghost use Rattle.run_engine.specs.LineRun.{AnswersLine, EndsLine, one_more};
+ghost use Rattle.run_engine.specs.Reply.{Returns};
 ghost use Rattle.run_engine.specs.Seen.{Breaks, moment};
 
 use crate::answering::answer_one;
@@ -16,16 +17,15 @@ use crate::streams::Streams;
 use crate::watch::Watch;
 use fixed_steps::Steps;
 use line_engine::{Failed, LineBuffer, Output};
-use std::alloc::{AllocError, Global};
 use std::convert::Infallible;
 use std::sync::ledger::Ledger;
 
 /// Lines, each answered by a rule. A line ends at a newline byte, which is not part of it; the rule gets its first
 /// 1,048,577 bytes. The bytes after the last newline, if any, are a line too.
 #[derive(Drop)]
-pub struct Lines<R, W> {
+pub struct Lines<'r, R, W> {
     /// The rule.
-    pub rule: R,
+    pub rule: &'r R,
     /// The observer of the lines.
     pub watch: W,
     /// The first bytes of the line that has not ended.
@@ -36,28 +36,7 @@ pub struct Lines<R, W> {
     pub has_fault: bool,
 }
 
-impl<R, W> Lines<R, W> {
-    /// The state before the first line. Allocates one line of 1,048,577 bytes, and nothing afterwards.
-    pub fn new(alloc: Global, rule: R, watch: W) -> Result<Lines<R, W>, AllocError>
-    where
-        R: Drop,
-        W: Drop,
-        ensures rule { IfOk result (λ it. it.rule ≡ rule) }
-        ensures watch { IfOk result (λ it. it.watch ≡ watch) }
-        ensures line { IfOk result (λ it. it.line ≡ []) }
-        ensures count { IfOk result (λ it. it.count ≡ 0) }
-        ensures fault { IfOk result (λ it. it.has_fault ≡ false) }
-    {
-        let line = LineBuffer::new(alloc)?;
-        Ok(Lines {
-            rule,
-            watch,
-            line,
-            count: 0,
-            has_fault: false,
-        })
-    }
-
+impl<'r, R, W> Lines<'r, R, W> {
     /// Counts one more line. Returns its number.
     #[inline]
     fn next(&mut self) -> u64
@@ -76,21 +55,24 @@ impl<R, W> Lines<R, W> {
     fn end_long_line<L: Ledger>(&mut self, part: &[u8], out: &mut Output, steps: &mut Steps<L>)
     where
         R: Rule<L>,
-        W: Watch<R::Cause>,
+        W: Watch<R, L>,
         requires room { length out.old + R.MAX_ANSWER < 8192 }
         ensures rule { self.new.rule ≡ self.old.rule }
         ensures line { self.new.line ≡ [] }
         ensures count { self.new.count ≡ one_more self.old.count }
         ensures ended { (fault : Bool) × (held : List ℕ) × (self.new.has_fault ≡ (self.old.has_fault || fault))
-            × AnswersLine (R.Answers self.old.rule) R.Cause.message W.Saw (take kept_length (self.old.line ++ part.now))
-            (one_more self.old.count) self.old.watch self.new.watch out.old held fault × (out.new ≡ held ++ 10 ∷ []) }
-        ensures cost { steps.new ≤ steps.old + R.PER_BYTE * length (take kept_length (self.old.line ++ part.now))
-            + R.EXTRA }
+            × AnswersLine (R.Answers self.old.rule.now)
+            (Returns (R.Notes self.old.rule.now) (R.refusal self.old.rule.now)) (W.Saw self.old.rule.now)
+            (take kept_length (self.old.line ++ part.now)) (one_more self.old.count)
+            self.old.watch self.new.watch out.old held fault × (out.new ≡ held ++ 10 ∷ []) }
+        ensures cost { steps.new ≤ steps.old
+            + (R.PER_BYTE + W.PER_BYTE) * length (take kept_length (self.old.line ++ part.now))
+            + (R.EXTRA + W.EXTRA) }
     {
         let number = self.next();
         self.line.append(part);
         let line = self.line.as_slice();
-        let is_fault = answer_one(&self.rule, line, number, &mut self.watch, out, steps);
+        let is_fault = answer_one(self.rule, line, number, &mut self.watch, out, steps);
         out.push(b'\n');
         self.has_fault |= is_fault;
         self.line.clear();
@@ -107,10 +89,11 @@ impl<R, W> Lines<R, W> {
     ) -> Result<(), Failed>
     where
         R: LineRule<L>,
-        W: Watch<R::Cause>,
+        W: Watch<R, L>,
         ensures line { OnOk result (self.new.line ≡ []) }
         ensures ok { OnOk result ((whole : List ℕ) → IsKept kept_length whole self.old.line
-            → EndsLine (R.Answers self.old.rule) R.Cause.message W.Saw R.PER_BYTE R.EXTRA (whole ++ part.now)
+            → EndsLine (R.Answers self.old.rule.now) (Returns (R.Notes self.old.rule.now) (R.refusal self.old.rule.now))
+            (W.Saw self.old.rule.now) (R.PER_BYTE + W.PER_BYTE) (R.EXTRA + W.EXTRA) (whole ++ part.now)
             self.old self.new (moment (I.seen out.old.io) out.old.text steps.old)
             (moment (I.seen out.new.io) out.new.text steps.new)) }
         ensures err { OnErr result (Breaks (I.seen out.old.io) (I.seen out.new.io) out.old.text []) }
@@ -120,7 +103,7 @@ impl<R, W> Lines<R, W> {
         if self.line.is_empty() {
             let number = self.next();
             let is_fault = answer_one(
-                &self.rule,
+                self.rule,
                 part,
                 number,
                 &mut self.watch,
@@ -136,15 +119,17 @@ impl<R, W> Lines<R, W> {
     }
 }
 
-impl<R: LineRule<L>, W: Watch<R::Cause>, L: Ledger> Pieces<L> for Lines<R, W> {
+impl<'r, R: LineRule<L>, W: Watch<R, L>, L: Ledger> Pieces<L> for Lines<'r, R, W> {
     ghost use Rattle.run_engine.specs.LineRun.{MakesLines};
     ghost use Rattle.run_engine.specs.Pieces.{is_newline};
+    ghost use Rattle.run_engine.specs.Reply.{Returns};
     ghost use Rattle.run_engine.specs.Lemmas.LineLaws.{lines_one};
 
     type Stop = Infallible;
 
-    ghost Makes = { λ first bytes text spent how last. MakesLines (R.Answers first.rule) R.Cause.message W.Saw
-        R.PER_BYTE R.EXTRA first bytes text spent how last };
+    ghost Makes = { λ first bytes text spent how last. MakesLines (R.Answers first.rule.now)
+        (Returns (R.Notes first.rule.now) (R.refusal first.rule.now)) (W.Saw first.rule.now) (R.PER_BYTE + W.PER_BYTE)
+        (R.EXTRA + W.EXTRA) first bytes text spent how last };
 
     ghost ends = { is_newline };
 
@@ -191,9 +176,9 @@ impl<R: LineRule<L>, W: Watch<R::Cause>, L: Ledger> Pieces<L> for Lines<R, W> {
         }
     }
 
-    ghost one_law = { λ first a b bytes made other spent cost how then p q. lines_one (R.Answers first.rule)
-        (R.one_law first.rule) R.Cause.message W.Saw R.PER_BYTE R.EXTRA first a b bytes made other spent cost how then p
-        q };
+    ghost one_law = { λ first a b bytes made other spent cost how then p q. lines_one (R.Answers first.rule.now)
+        (R.one_law first.rule.now) (Returns (R.Notes first.rule.now) (R.refusal first.rule.now)) (W.Saw first.rule.now)
+        (R.PER_BYTE + W.PER_BYTE) (R.EXTRA + W.EXTRA) first a b bytes made other spent cost how then p q };
 
     ghost stop_law = { λ first last bytes more text spent why stopped. stopped };
 }

@@ -1,8 +1,12 @@
 //! An observer that counts the refused lines, and keeps the first.
 
-ghost use Rattle.std.specs.Prelude.{◌≡◌, None, take};
+ghost use Rattle.std.specs.Prelude.{◌≡◌, None, Some, take};
+ghost use Rattle.run_engine.specs.Refused.{Counts};
 
+use crate::rule::Rule;
 use crate::watch::Watch;
+use fixed_steps::Steps;
+use std::sync::ledger::Ledger;
 use text_buffer::TextBuffer;
 
 /// How many bytes of a line are kept.
@@ -46,22 +50,43 @@ impl<C> Refusals<C> {
     }
 }
 
-impl<C: Copy> Watch<C> for Refusals<C> {
-    ghost use Rattle.run_engine.specs.Refused.{Counts};
+impl<C: Copy> Refusals<C> {
+    /// Counts a line that is refused for a cause, and keeps it if it is the first.
+    #[cold]
+    pub fn refuse(&mut self, number: u64, line: &[u8], cause: C)
+        ensures { Counts self.old number line.now (Some cause) self.new }
+    {
+        self.count = self.count.saturating_add(1);
+        if self.first.is_none() {
+            self.first = Some(RefusedLine {
+                number,
+                line: first_bytes(line),
+                cause,
+            });
+        }
+    }
+}
 
-    ghost Saw = { λ watch number line cause then. Counts watch number line cause then };
+impl<C: Copy, R: Rule<L, Cause = C>, L: Ledger> Watch<R, L> for Refusals<C> {
+    ghost use Rattle.run_engine.specs.Refused.{Counts, cause_of};
+
+    ghost PER_BYTE = { 0 };
+
+    ghost EXTRA = { 0 };
+
+    ghost Saw = { λ rule watch number line result then. Counts watch number line (cause_of result) then };
 
     #[inline]
-    fn see(&mut self, number: u64, line: &[u8], cause: &Option<C>) {
-        if let Some(cause) = cause {
-            self.count = self.count.saturating_add(1);
-            if self.first.is_none() {
-                self.first = Some(RefusedLine {
-                    number,
-                    line: first_bytes(line),
-                    cause: *cause,
-                });
-            }
+    fn see(
+        &mut self,
+        _rule: &R,
+        number: u64,
+        line: &[u8],
+        returned: &Result<R::Note, C>,
+        _steps: &mut Steps<L>,
+    ) {
+        if let Err(cause) = returned {
+            self.refuse(number, line, *cause);
         }
     }
 }

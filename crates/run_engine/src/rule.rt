@@ -1,6 +1,6 @@
 //! Rules that answer lines.
 
-ghost use Rattle.std.specs.Prelude.{◌≡◌, ◌+◌, ◌*◌, ◌≤◌, ◌<◌, ◌++◌, ◌↔◌, ℕ, List, length, take};
+ghost use Rattle.std.specs.Prelude.{◌≡◌, ◌+◌, ◌*◌, ◌≤◌, ◌<◌, ◌++◌, ◌↔◌, ℕ, IfOk, List, length, take};
 ghost use Rattle.line_engine.specs.AnswerText.{AnswerText};
 ghost use Rattle.line_engine.specs.Lines.{kept_length};
 ghost use Rattle.run_engine.specs.Reply.{Replies};
@@ -22,8 +22,11 @@ pub trait Cause {
 
 /// A rule that answers lines. Its meaning is a relation between a line and its one answer.
 pub trait Rule<L: Ledger> {
+    /// What is known of an answered line, for an observer.
+    type Note: Drop;
+
     /// Why a line may be refused.
-    type Cause: Cause + Drop;
+    type Cause: Drop;
 
     /// The most steps of an answer for each byte of its line.
     const PER_BYTE: u64;
@@ -31,7 +34,7 @@ pub trait Rule<L: Ledger> {
     /// The most steps of an answer in addition to those for the bytes.
     const EXTRA: u64;
 
-    /// The longest answer, or `error: ` and a message, in bytes without the newline: at most 8,191.
+    /// The longest answer or refusal, in bytes without the newline: at most 8,191.
     const MAX_ANSWER: usize;
 
     ghost PER_BYTE: { ℕ };
@@ -43,11 +46,28 @@ pub trait Rule<L: Ledger> {
     /// The rule's meaning: whether a text with its flag is the answer to a line.
     ghost Answers: { Self → List ℕ → AnswerText → Type 0 };
 
+    /// What a note says of its line.
+    ghost Notes: { Self → List ℕ → Self.Note → Type 0 };
+
+    /// The text that is written for a line which is refused for a cause.
+    ghost refusal: { Self → List ℕ → Self.Cause → List ℕ };
+
     /// Appends the answer to a line, without a newline; or appends nothing and returns why the line is refused.
-    fn answer(&self, line: &[u8], out: &mut Output, steps: &mut Steps<L>) -> Option<Self::Cause>
+    fn answer(
+        &self,
+        line: &[u8],
+        out: &mut Output,
+        steps: &mut Steps<L>,
+    ) -> Result<Self::Note, Self::Cause>
         requires room { length out.old + MAX_ANSWER ≤ 8192 }
-        ensures answer { Replies (Answers self.now) Self.Cause.message MAX_ANSWER line.now out.old out.new result }
+        ensures answer { Replies (Answers self.now) (refusal self.now) MAX_ANSWER line.now out.old out.new result }
+        ensures note { IfOk result (Notes self.now line.now) }
         ensures cost { steps.new ≤ steps.old + PER_BYTE * length line.now + EXTRA };
+
+    /// Appends the text for a line that is refused for a cause.
+    fn push_refusal(&self, line: &[u8], cause: &Self::Cause, out: &mut Output)
+        requires room { length out.old + length (refusal self.now line.now cause.now) ≤ 8192 }
+        ensures { out.new ≡ out.old ++ refusal self.now line.now cause.now };
 
     /// An answer and its newline fit into the buffer.
     ghost room_law: { MAX_ANSWER < 8192 };

@@ -1,5 +1,5 @@
 -- The output for lines is determined.
-use Rattle.std.proofs.Common.{◌≡◌, ◌||◌, ℕ, List, Option, ap, sym, ◌∙◌}
+use Rattle.std.proofs.Common.{◌≡◌, ◌||◌, ℕ, List, ap, sym, ◌∙◌}
 use Rattle.std.specs.declared.convert.Infallible.{Infallible}
 use Rattle.line_engine.proofs.Public.{answers_one}
 use Rattle.line_engine.specs.AnswerText.{AnswerText}
@@ -9,12 +9,12 @@ use Rattle.run_engine.specs.LineRun.{AnswersLines, MakesLines}
 use Rattle.run_engine.specs.Machines.{Agree, How, going, finished, lacking, stopped}
 use Rattle.run_engine.specs.declared.lines.Lines.{Lines}
 
-module _ {R W C : Type 0} (A : List ℕ → AnswerText → Type 0) (one : (line : List ℕ) (a b : AnswerText) → A line a
-    → A line b → a ≡ b) (message : C → List ℕ) (Saw : W → ℕ → List ℕ → Option C → W → Type 0) (per_byte extra : ℕ)
-    (first a b : Lines R W) where
+module _ {R W T : Type 0} (A : List ℕ → AnswerText → Type 0) (one : (line : List ℕ) (a b : AnswerText) → A line a
+    → A line b → a ≡ b) (Is : List ℕ → AnswerText → T → Type 0) (Saw : W → ℕ → List ℕ → T → W → Type 0)
+    (per_byte extra : ℕ) (first a b : Lines R W) where
   text_one : (ls : List (List ℕ)) (made other : List ℕ) (spent cost : ℕ)
-      → AnswersLines A message Saw per_byte extra first ls made spent a
-      → AnswersLines A message Saw per_byte extra first ls other cost b → (made ≡ other) × (a.has_fault ≡ b.has_fault)
+      → AnswersLines A Is Saw per_byte extra first ls made spent a
+      → AnswersLines A Is Saw per_byte extra first ls other cost b → (made ≡ other) × (a.has_fault ≡ b.has_fault)
   text_one ls made other spent cost p q =
       let same = answers_one A one ls p.replies q.replies p.answers q.answers in (
         p.text_is ∙ ap written_of same ∙ sym q.text_is,
@@ -23,8 +23,8 @@ module _ {R W C : Type 0} (A : List ℕ → AnswerText → Type 0) (one : (line 
       )
 
   pub lines_one : (bytes made other : List ℕ) (spent cost : ℕ) (how then : How Infallible)
-      → MakesLines A message Saw per_byte extra first bytes made spent how a
-      → MakesLines A message Saw per_byte extra first bytes other cost then b → Agree how made then other
+      → MakesLines A Is Saw per_byte extra first bytes made spent how a
+      → MakesLines A Is Saw per_byte extra first bytes other cost then b → Agree how made then other
   lines_one bytes made other spent cost going going p q = (text_one (ended_lines bytes) made other spent cost p.made
       q.made).0
   lines_one bytes made other spent cost going (finished g) p q = tt
