@@ -12,13 +12,13 @@ use command_line::report::{Report, report_end, report_no_memory};
 use fixed_arrays::{ArrayRule, LiteralArrayRule};
 use fixed_command::watch::{Product as Whole, WatchedWhole};
 use fixed_command::{
-    ConvertRule, Limit, Offers, RefusedLine, RenamedRule, Spelling, SwappedRule, Task, Watch,
-    run_task, whole_within, without_return,
+    ConvertRule, Limit, Offers, Refusals, RefusedLine, RenamedRule, Spelling, SwappedRule, Task,
+    Watch, run_task, whole_within, without_return,
 };
 use fixed_constants::{FormRule, PlainRule};
 use fixed_io::StdSink;
 use fixed_steps::Steps;
-use line_engine::{MemorySource, Sink, Source, Status, run_whole};
+use line_engine::{MemorySource, Sink, Source, Status, WholeRule, run_whole};
 use std::fs::File;
 use std::io;
 use std::io::{ErrorKind, Read};
@@ -218,39 +218,44 @@ fn gather_file<'a>(rt: &HostRuntime, name: &'a str, all: &mut Gathered<'a>) -> S
     }
 }
 
-/// Writes the product of an input within the limit, or nothing if the input is refused.
+/// Writes what a rule answers for a whole input within the limit, or nothing if the input is refused. Returns how that
+/// ended, and the refused line.
+fn run_rule<R: WholeRule<L>, S: Source, K: Sink, L: Ledger>(
+    rt: &HostRuntime,
+    rule: &R,
+    limit: &Option<Limit>,
+    source: &mut S,
+    sink: &mut K,
+    steps: &mut Steps<L>,
+) -> (Status, Refusals) {
+    let watch = &Watch::new();
+    let watched = WatchedWhole { rule, watch };
+    let whole = Whole { rule: &watched };
+    let status = run_whole(rt.alloc(), whole_within(limit), &whole, source, sink, steps);
+    (status, watch.refusals())
+}
+
+/// Writes the product of an input within the limit, or nothing if the input is refused. Returns how that ended, and the
+/// refused line.
 fn run_on<S: Source, K: Sink, L: Ledger>(
     rt: &HostRuntime,
     product: &Product<'_>,
     limit: &Option<Limit>,
-    watch: &Watch,
     source: &mut S,
     sink: &mut K,
     steps: &mut Steps<L>,
-) -> Status {
+) -> (Status, Refusals) {
     match product {
         Product::Constants(rule) => {
-            run_task(
-                rt.alloc(),
-                limit,
-                &Task::Constants(*rule),
-                watch,
-                source,
-                sink,
-                steps,
-            )
+            let task = Task::Constants(*rule);
+            let end = run_task(rt.alloc(), limit, &task, source, sink, steps);
+            (end.status, end.refusals)
         }
-        Product::List(rule) => {
-            let watched = WatchedWhole { rule, watch };
-            let whole = Whole { rule: &watched };
-            run_whole(rt.alloc(), whole_within(limit), &whole, source, sink, steps)
-        }
+        Product::List(rule) => run_rule(rt, rule, limit, source, sink, steps),
         Product::Literals(rule) => {
             let renamed = RenamedRule { rule };
-            let rule = PlainRule { rule: &renamed };
-            let watched = WatchedWhole { rule: &rule, watch };
-            let whole = Whole { rule: &watched };
-            run_whole(rt.alloc(), whole_within(limit), &whole, source, sink, steps)
+            let plain = PlainRule { rule: &renamed };
+            run_rule(rt, &plain, limit, source, sink, steps)
         }
     }
 }
@@ -294,18 +299,18 @@ fn write_product<L: Ledger>(
     mut output: LateOutput<'_, '_>,
     steps: &mut Steps<L>,
 ) -> Status {
-    let watch = Watch::new();
     let failure = Failure::new(None);
     let mut source = MemorySource::new(all.bytes, 65_536, Vec::new(rt.alloc()));
     let mut sink = StdSink::new(Writer {
         writer: &mut output,
         failure: &failure,
     });
-    let mut status = run_on(rt, product, limit, &watch, &mut source, &mut sink, steps);
+    let (ended, refusals) = run_on(rt, product, limit, &mut source, &mut sink, steps);
     let lines = sink.lines();
-    if let Some(line) = watch.refusals().first {
-        report_line(rt, product, &all.ends, &line, steps);
+    if let Some(line) = &refusals.first {
+        report_line(rt, product, &all.ends, line, steps);
     }
+    let mut status = ended;
     if status == Status::Done {
         if let Err(error) = output.open() {
             failure.set(Some(error));

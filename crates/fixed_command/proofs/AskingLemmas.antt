@@ -1,5 +1,5 @@
 -- The answers to lines that request conversions.
-use Rattle.std.proofs.Common.{◌≡◌, ℕ, zero, suc, ◌+◌, ◌^◌, ◌<◌, ◌≤◌, ◌/◌, ◌%◌, Bool, true, false, cond, eqb, nat_lt, List, [], ◌∷◌, ◌++◌, length, map, ◌||◌, ℤ, pos, negsuc, refl, sym, ap, ◌∙◌, subst, arith, inl, inr, length-append, if◌then◌else◌, ◌==◌}
+use Rattle.std.proofs.Common.{append-nil, codes, Ok, Err, ◌≡◌, ℕ, zero, suc, ◌+◌, ◌^◌, ◌<◌, ◌≤◌, ◌/◌, ◌%◌, Bool, true, false, cond, eqb, nat_lt, List, [], ◌∷◌, ◌++◌, length, map, ◌||◌, ℤ, pos, negsuc, refl, sym, ap, ◌∙◌, subst, arith, inl, inr, length-append, if◌then◌else◌, ◌==◌}
 use Rattle.std.specs.Fmt.{decimal, digit_glyph, sign_text, signed_decimal}
 use Rattle.std.specs.Int.{is_negative}
 use Rattle.std.specs.Int.Digits.{digits_of}
@@ -18,7 +18,9 @@ use Rattle.fixed_numeral.specs.Messages.{message_of}
 use Rattle.fixed_numeral.specs.declared.error.ParseErrorKind.{ParseErrorKind}
 use Rattle.fixed_numeral.specs.declared.radix.Radix.{Radix}
 use Rattle.fixed_numeral.specs.declared.radix.Radix.TheVariants.{Bin, Oct, Dec, Hex}
-use Rattle.fixed_write.specs.Texts.{IsShortestText, decimal_text, fraction_part, last_digits, point_text, whole_digits}
+use Rattle.fixed_convert.specs.Rounded.{IsNotReformatted}
+use Rattle.fixed_write.proofs.Public.{shortest_text_is}
+use Rattle.fixed_write.specs.Texts.{IsShortestText, decimal_text, fraction_part, last_digits, point_text, shortest_text, whole_digits}
 use Rattle.fixed_respell.specs.Answer.{AsksBy, respelled_answer, task_of, verdict}
 use Rattle.fixed_respell.specs.FormatNames.{IsFormatName}
 use Rattle.fixed_respell.specs.Language.{fault_answer}
@@ -28,11 +30,13 @@ use Rattle.fixed_respell.specs.Split.{count_of}
 use Rattle.fixed_respell.specs.Words.{IsPolicyName, counts_text, format_text, mode_text, policy_text, radix_text, sign_letter, slash}
 use Rattle.fixed_respell.proofs.Public.{text_names}
 use Rattle.fixed_respell.specs.Lemmas.SplitLemmas.{count-append, count_cons}
-use Rattle.fixed_numeral.proofs.Public.{message_short}
 use Rattle.fixed_numeral.specs.declared.error.ParseErrorKind.TheVariants.{Overflow}
-use Rattle.fixed_respell.proofs.Public.{fault_appended}
+use Rattle.line_engine.specs.AnswerText.{AnswerText}
 use Rattle.line_engine.specs.Output.{AppendsAnswer}
-use Rattle.fixed_command.specs.Moved.{HasPushed}
+use Rattle.run_engine.specs.Reply.{Replies}
+use Rattle.fixed_command.specs.Message.{message_text}
+use Rattle.fixed_command.specs.Moved.{HasImage, HasPushedImage}
+use Rattle.fixed_command.specs.declared.message.Message.{Message}
 use Rattle.fixed_command.specs.Convert.{AreFormats, IsAnswerBy, IsMovedAnswer, IsNoSource, IsReply, IsSource, asking_line, asks_a_line}
 use Rattle.fixed_command.specs.Printed.{printed}
 use Rattle.fixed_command.specs.declared.convert.Settings.{Settings}
@@ -222,14 +226,49 @@ moved_reply s numeral text bits o moved is shortest wide = record {
   });
 }
 
--- the bytes pushed for a number of the source are the reply to its numeral
-pub pushed_reply : (s : Settings) (numeral : List ℕ) (number : ℤ) (out : Bool) (before after : List ℕ) (fault : Bool) → AreFormats s → asks_a_line s.spelling s.target_mode ≡ false → length (asking_line s numeral) ≤ longest_line
-    → IsSource s.spelling s numeral number out → HasPushed s number out before after fault → AppendsAnswer (IsReply s) 192 numeral before after fault
-pushed_reply s numeral number out before after true formats moved short source pushed =
-    fault_appended (IsReply s) numeral before after (message_of Overflow) (message_short Overflow)
-    (fault_reply s numeral (message_of Overflow) moved (inr (inr (inl (record { short = short; formats = formats; number = number; out = out; source = source; none = pushed.0; answer_is = refl })))))
-    pushed.1
-pushed_reply s numeral number out before after false formats moved short source pushed =
+-- the printed image of a number is what is pushed for it
+pub image_pushed : (s : Settings) (number : ℤ) (out : Bool) (bits : ℤ) (is_out : Bool) (before after : List ℕ) → HasImage s number out bits is_out
+    → after ≡ before ++ printed s.print s.target (respelled_answer (shortest_text bits s.target.frac) bits is_out).text (shortest_text bits s.target.frac) bits → length after ≤ length before + 130 → HasPushedImage s number out before after
+image_pushed s number out bits is_out before after image appended short =
+    let text : List ℕ = shortest_text bits s.target.frac in
+    record {
+      bits = bits;
+      target_out = image.target_out;
+      moved = image.moved;
+      text = text;
+      shortest = shortest_text_is bits s.target.frac;
+      wide = image.wide;
+      appended = subst (λ o. after ≡ before ++ printed s.print s.target (respelled_answer text bits o).text text bits) image.is_out_is appended;
+      short = short;
+    }
+
+-- ---- what a rule returns
+pub ok_replies : (A : List ℕ → AnswerText → Type 0) (most : ℕ) (line before after : List ℕ) → AppendsAnswer A most line before after false → Replies {N = Unit {0}} A message_text most line before after (Ok tt)
+ok_replies A most line before after made = record { text = made.text; answer = made.answer; appended = made.appended; none = tt; short = made.short }
+
+pub err_replies : (A : List ℕ → AnswerText → Type 0) (most : ℕ) (line before message : List ℕ) (m : Message) → 192 ≤ most → m.text.now ≡ message → length message ≤ 64 → A line (fault_answer message) → Replies {N = Unit {0}} A message_text most line before before (Err m)
+err_replies A most line before message m room is few answer = record {
+  text = [];
+  answer = subst (λ t. A line (fault_answer t)) (sym is) answer;
+  appended = sym (append-nil before);
+  none = refl;
+  short = omega (arith, few, room, ap length is, length-append (codes "error: ") m.text.now);
+}
+
+-- the message is the reply to a numeral that gives no number of the source
+pub unsourced_answer : (s : Settings) (numeral message : List ℕ) → asks_a_line s.spelling s.target_mode ≡ false → length (asking_line s numeral) ≤ longest_line → IsNoSource s.spelling s numeral message → IsReply s numeral (fault_answer message)
+unsourced_answer s numeral message moved short none = fault_reply s numeral message moved (inr (inl (record { short = short; message = message; none = none; answer_is = refl })))
+
+-- that of the overflow is the reply to a numeral whose number has no image
+pub unmoved_answer : (s : Settings) (numeral : List ℕ) (number : ℤ) (out : Bool) → AreFormats s → asks_a_line s.spelling s.target_mode ≡ false → length (asking_line s numeral) ≤ longest_line → IsSource s.spelling s numeral number out
+    → IsNotReformatted s.target_mode s.policy s.target number s.source.frac → IsReply s numeral (fault_answer (message_of Overflow))
+unmoved_answer s numeral number out formats moved short source none =
+    fault_reply s numeral (message_of Overflow) moved (inr (inr (inl (record { short = short; formats = formats; number = number; out = out; source = source; none = none; answer_is = refl }))))
+
+-- the printed image is the reply to a numeral whose number has it
+pub moved_answer : (s : Settings) (numeral : List ℕ) (number : ℤ) (out : Bool) (before after : List ℕ) → AreFormats s → asks_a_line s.spelling s.target_mode ≡ false → length (asking_line s numeral) ≤ longest_line
+    → IsSource s.spelling s numeral number out → HasPushedImage s number out before after → AppendsAnswer (IsReply s) 192 numeral before after false
+moved_answer s numeral number out before after formats moved short source pushed =
     let o : Bool = out || pushed.target_out in
     let text : List ℕ = printed s.print s.target (respelled_answer pushed.text pushed.bits o).text pushed.text pushed.bits in
     let is : IsMovedAnswer s numeral (respelled_answer pushed.text pushed.bits o) = inr (inr (inr (record {
@@ -251,9 +290,3 @@ pushed_reply s numeral number out before after false formats moved short source 
       appended = pushed.appended;
       short = omega (arith, pushed.short, ap length pushed.appended, length-append before text);
     }
-
--- the message is the reply to a numeral that gives no number of the source
-pub unsourced_reply : (s : Settings) (numeral message before after : List ℕ) → asks_a_line s.spelling s.target_mode ≡ false → length (asking_line s numeral) ≤ longest_line → length message ≤ 64
-    → IsNoSource s.spelling s numeral message → after ≡ before ++ (fault_answer message).text → AppendsAnswer (IsReply s) 192 numeral before after true
-unsourced_reply s numeral message before after moved short few none appended =
-    fault_appended (IsReply s) numeral before after message few (fault_reply s numeral message moved (inr (inl (record { short = short; message = message; none = none; answer_is = refl })))) appended

@@ -1,7 +1,6 @@
 -- For the proofs of dependent crates:
 pub mod Public
 -- Private to this crate:
-mod AmountLemmas
 mod AskingLemmas
 mod BlockLemmas
 mod ColonLemmas

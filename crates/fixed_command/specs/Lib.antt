@@ -13,13 +13,16 @@ pub mod Layout
 pub mod LeastLines
 pub mod Lemmas
 pub mod Limits
+pub mod Message
 pub mod Moved
 pub mod LineBlocks
 pub mod NameLaws
+pub mod Observed
 pub mod Outcome
 pub mod Printed
 pub mod Products
 pub mod Refused
+pub mod Reports
 pub mod RunLaws
 pub mod Renamed
 pub mod Runs

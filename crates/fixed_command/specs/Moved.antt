@@ -10,6 +10,13 @@ use Rattle.fixed_write.specs.Texts.{IsShortestText}
 use Rattle.fixed_command.specs.Printed.{printed}
 use Rattle.fixed_command.specs.declared.convert.Settings.{Settings}
 
+-- the number has this image in the target; `is_out` says whether it, or what was read, was out of its range
+pub record HasImage (s : Settings) (number : ℤ) (out : Bool) (bits : ℤ) (is_out : Bool) : Type 0 where
+  pub target_out : Bool
+  pub moved : IsReformatted s.target_mode s.policy s.target number s.source.frac bits target_out
+  pub wide : IsWide bits
+  pub is_out_is : is_out ≡ (out || target_out)
+
 -- the number has an image in the target, and the requested part was appended, with whether the number, or what was
 -- read, was out of its range
 pub record HasPushedImage (s : Settings) (number : ℤ) (out : Bool) (before after : List ℕ) : Type 0 where

@@ -94,8 +94,8 @@ TaskRuns limit Lines = HasLineRun respell.IsAnswer (limit_of limit) 8 624
 TaskRuns limit (LaidOutLines layout) = HasLineRun (AnswersLaidOut layout respell.IsAnswer) (limit_of limit) 8 624
 TaskRuns limit (Convert settings) = HasLineRun (IsLineReply settings) (limit_of limit) 8 624
 TaskRuns limit (LaidOut laid) = HasLineRun (IsLaidOut laid.layout (IsReply laid.rule)) (limit_of limit) 8 624
-TaskRuns limit (Reported laid) = HasLineRun (IsLaidOut laid.layout (IsReply laid.rule)) (limit_of limit)
-    reported_per_byte reported_extra
+TaskRuns limit (Reported counted) = HasLineRun (IsLaidOut counted.laid.layout (IsReply counted.laid.rule))
+    (limit_of limit) reported_per_byte reported_extra
 TaskRuns limit (Errors lines) = HasLineRun (IsErrorLine lines) (limit_of limit) 11 1565
 TaskRuns limit Enclose = HasLineRun enclose.IsAnswer (limit_of limit) 16 1248
 TaskRuns limit (LaidOutEnclose layout) = HasLineRun (AnswersLaidOut layout enclose.IsAnswer) (limit_of limit) 16 1248

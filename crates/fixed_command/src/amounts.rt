@@ -10,7 +10,6 @@ ghost use Rattle.fixed_command.specs.Amounts.{HasAmountsRun};
 ghost use Rattle.fixed_command.specs.Limits.{limit_of};
 ghost use Rattle.line_engine.specs.Program.{outside};
 ghost use Rattle.line_engine.specs.declared.status.Status.{Status};
-ghost use Rattle.run_engine.specs.LineStatus.{IsStatus};
 
 use crate::convert::without_return;
 use crate::explain_field::numeral_of;
@@ -23,10 +22,8 @@ use fixed_amounts::{
 use fixed_respell::{Refusal, push_fault};
 use fixed_steps::Steps;
 use line_engine::{MAX_ANSWER, MAX_LINE, Output, Sink, Source, Status};
-use run_engine::{Cut, Devices, End, Gathered, LineRule, Lines, Refusals, Rule, run};
+use run_engine::{LineRule, LinesEnd, Refusals, Rule, push_error, run_watched};
 use std::alloc::Global;
-use std::convert::Infallible;
-use std::mem;
 use std::sync::ledger::Ledger;
 use text_buffer::TextBuffer;
 
@@ -39,25 +36,15 @@ pub struct AmountLines {
     pub layout: Layout,
 }
 
-impl AmountLines {
-    /// Returns the same rule.
-    fn same(&self) -> AmountLines
-        ensures settings { result.settings ≡ self.now.settings }
-        ensures layout { result.layout ≡ self.now.layout }
-    {
-        AmountLines {
-            settings: self.settings,
-            layout: self.layout.same(),
-        }
-    }
-}
-
 impl<L: Ledger> Rule<L> for AmountLines {
     ghost use Rattle.std.proofs.Common.{lit<};
     ghost use Rattle.fixed_amounts.specs.Lemmas.ReplyLemmas.{amount_reply_one};
-    ghost use Rattle.fixed_amounts.specs.Reply.{IsReply};
+    ghost use Rattle.fixed_amounts.specs.Reply.{IsReply, fault_text};
+    ghost use Rattle.fixed_respell.specs.Refusal.{refusal_text};
     ghost use Rattle.fixed_command.specs.Amounts.{IsAmountLine};
     ghost use Rattle.fixed_command.specs.Lemmas.LayoutLemmas.{laid_out_one};
+
+    type Note = ();
 
     type Cause = AmountRefusal;
 
@@ -75,14 +62,27 @@ impl<L: Ledger> Rule<L> for AmountLines {
 
     ghost Answers = { λ lines. IsAmountLine lines };
 
-    fn answer(&self, line: &[u8], out: &mut Output, steps: &mut Steps<L>) -> Option<AmountRefusal> {
+    ghost Notes = { λ lines line note. Unit {0} };
+
+    ghost refusal = { λ lines. refusal_text fault_text };
+
+    fn answer(
+        &self,
+        line: &[u8],
+        out: &mut Output,
+        steps: &mut Steps<L>,
+    ) -> Result<(), AmountRefusal> {
         if line.len() > MAX_LINE {
-            return Some(Refusal::Line(AmountFault::TooLong));
+            return Err(Refusal::Line(AmountFault::TooLong));
         }
         if self.layout.is_skipped(line) {
-            return None;
+            return Ok(());
         }
         push_reply(&self.settings, self.layout.numeral_of(line), out, steps)
+    }
+
+    fn push_refusal(&self, _line: &[u8], cause: &AmountRefusal, out: &mut Output) {
+        push_error(cause, out);
     }
 
     ghost room_law = { lit< tt };
@@ -109,11 +109,11 @@ impl<L: Ledger> FieldReply<L> for AmountSettings {
 
     fn reply_to(&self, line: &[u8], out: &mut Output, steps: &mut Steps<L>) -> bool {
         match push_reply(self, without_return(line), out, steps) {
-            Some(refusal) => {
+            Ok(()) => false,
+            Err(refusal) => {
                 push_fault(out, refusal.words());
                 true
             }
-            None => false,
         }
     }
 
@@ -147,32 +147,8 @@ pub fn amount_field_explanation<L: Ledger>(
     )
 }
 
-/// How a run over lines with amounts ended.
-#[derive(Drop)]
-pub struct AmountsEnd {
-    /// Its status: `Faults` if a line was refused.
-    pub status: Status,
-    /// The refused lines: their count, and the first.
-    pub refusals: Refusals<AmountRefusal>,
-}
-
-/// Returns the status of a run that ended so.
-pub fn status_of(end: End<Infallible>) -> Status
-    ensures { IsStatus end result }
-{
-    match end {
-        End::Done => Status::Done,
-        End::Faults => Status::Faults,
-        End::ReadFault => Status::ReadFault,
-        End::WriteFault => Status::WriteFault,
-        End::TooLong => Status::TooLong,
-        End::NoMemory => Status::NoMemory,
-        End::Stopped(never) => match never {},
-    }
-}
-
 /// Answers each line of an input within the limit with its amount. It allocates one line buffer before the first read.
-/// `NoMemory`: there was no memory for it.
+/// `NoMemory`: there was no memory for it. Returns how that ended, with the count of the refused lines and the first.
 pub fn run_amounts<S: Source, K: Sink, L: Ledger>(
     alloc: Global,
     limit: &Option<Limit>,
@@ -180,33 +156,26 @@ pub fn run_amounts<S: Source, K: Sink, L: Ledger>(
     source: &mut S,
     sink: &mut K,
     steps: &mut Steps<L>,
-) -> AmountsEnd
+) -> LinesEnd<Refusals<AmountRefusal>>
     // What was read, made and written, by status; which count of failures rose; and which refused lines are kept.
     ensures run { ¬ (result.status ≡ Status.NoMemory) → HasAmountsRun (limit_of limit.now) lines.now
         (outside (S.left source.old) (S.asked source.old) (S.failures source.old) (K.written sink.old)
         (K.failures sink.old) steps.old)
         (outside (S.left source.new) (S.asked source.new) (S.failures source.new) (K.written sink.new)
-        (K.failures sink.new) steps.new) result.status result.refusals }
+        (K.failures sink.new) steps.new) result.status result.watch }
 
     // Nothing was read or written.
     ensures memory { result.status ≡ Status.NoMemory
         → (source.new ≡ source.old) × (sink.new ≡ sink.old) × (steps.new ≡ steps.old) }
 {
-    let kept = Refusals::new();
-    match Lines::new(alloc, lines.same(), kept) {
-        Err(_) => AmountsEnd {
-            status: Status::NoMemory,
-            refusals: Refusals::new(),
-        },
-        Ok(lines) => {
-            let mut machine = Cut(lines);
-            let mut out = Gathered::new(Devices { source, sink });
-            let end = run(&mut machine, bytes_within(limit), &mut out, steps);
-            let refusals = mem::replace(&mut machine.0.watch, Refusals::new());
-            AmountsEnd {
-                status: status_of(end),
-                refusals,
-            }
-        }
-    }
+    let refusals = Refusals::new();
+    run_watched(
+        alloc,
+        bytes_within(limit),
+        lines,
+        refusals,
+        source,
+        sink,
+        steps,
+    )
 }

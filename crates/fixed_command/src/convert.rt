@@ -4,17 +4,20 @@
 //! long exactly if that line is.
 
 ghost use Rattle.std.specs.Prelude.{◌≡◌, ◌↔◌, ◌+◌, ◌*◌, ◌-◌, ◌/◌, ◌^◌, ◌≤◌, ◌<◌, ◌++◌, [], ◌||◌, IfErr, IfOk, IsTrue};
-ghost use Rattle.std.specs.Prelude.{MatchResult, false, length, true};
+ghost use Rattle.std.specs.Prelude.{IfSome, MatchOption, MatchResult, false, length, true};
 ghost use Rattle.fixed_bits.specs.Formats.{IsFormat};
 ghost use Rattle.fixed_bits.specs.Numbers.{number_of_image};
 ghost use Rattle.fixed_bits.specs.Ranges.{IsInRange, IsWide};
 ghost use Rattle.line_engine.specs.Output.{AppendsAnswer};
-ghost use Rattle.fixed_command.specs.Moved.{HasPushed};
+ghost use Rattle.fixed_command.specs.Message.{message_text};
+ghost use Rattle.fixed_command.specs.Moved.{HasImage, HasPushed};
+ghost use Rattle.run_engine.specs.Reply.{Replies};
 ghost use Rattle.fixed_command.specs.Outcome.{IsWholeSource};
 ghost use Rattle.fixed_command.specs.declared.spelling.Spelling.{Spelling};
 ghost use Rattle.fixed_command.specs.Convert.{asks_a_line, IsNoSource, IsSource, IsLineReply, IsReply, asking_line};
 ghost use Rattle.fixed_command.specs.Convert.{without_return};
 ghost use Rattle.fixed_command.specs.Printed.{printed};
+ghost use Rattle.fixed_convert.specs.Rounded.{IsNotReformatted};
 ghost use Rattle.fixed_numeral.specs.Messages.{message_of};
 ghost use Rattle.fixed_respell.specs.Answer.{respelled_answer};
 ghost use Rattle.fixed_respell.specs.Language.{fault_answer};
@@ -23,6 +26,7 @@ ghost use Rattle.fixed_write.specs.Places.{IsExact, exact_text, rounded_text};
 ghost use Rattle.fixed_write.specs.Texts.{shortest_text};
 
 use crate::hex::{push_digits, push_hex};
+use crate::message::Message;
 use crate::outcome::magnitude_of;
 use crate::print::Print;
 use crate::spelling::Spelling;
@@ -34,7 +38,8 @@ use fixed_respell::{LineFault, format_name, push_fault, push_respelled, reached_
 use fixed_show::{Shown, read_shown, read_word};
 use fixed_steps::Steps;
 use fixed_write::{push_decimal, push_signed_integer, push_signed_shortest};
-use line_engine::{LineRule, MAX_ANSWER, MAX_LINE, Output};
+use line_engine::{MAX_ANSWER, MAX_LINE, Output};
+use run_engine::{LineRule, Rule, push_error};
 use std::marker::Model;
 use std::sync::ledger::Ledger;
 use text_buffer::TextBuffer;
@@ -231,7 +236,30 @@ impl ConvertRule {
         numeral.len() > MAX_LINE - self.head
     }
 
-    /// Appends the reply to a numeral, without a newline, and answers whether it is a fault.
+    /// Appends the reply to a numeral, without a newline; or appends nothing and returns why the numeral is refused.
+    pub fn reply_or_refuse<const N: usize, L: Ledger>(
+        &self,
+        numeral: &[u8],
+        out: &mut TextBuffer<N>,
+        steps: &mut Steps<L>,
+    ) -> Result<(), Message>
+        requires room { length out.old + MAX_ANSWER ≤ N }
+        ensures reply { Replies (IsReply self.now) message_text MAX_ANSWER numeral.now out.old out.new result }
+        ensures short { IfErr result (λ m. length m.text.now ≤ 64) }
+        ensures cost { steps.new ≤ steps.old + 8 * length numeral.now + 624 }
+    {
+        if self.is_too_long(numeral) {
+            Err(Message {
+                text: LineFault::LineTooLong.words(),
+            })
+        } else if asks_a_line(self.settings.spelling, self.settings.target_mode) {
+            self.push_answer(numeral, out, steps)
+        } else {
+            self.push_moved(numeral, out, steps)
+        }
+    }
+
+    /// Appends the reply to a numeral, without a newline. Returns whether it is refused.
     pub fn push_reply<const N: usize, L: Ledger>(
         &self,
         numeral: &[u8],
@@ -242,13 +270,12 @@ impl ConvertRule {
         ensures reply { AppendsAnswer (IsReply self.now) MAX_ANSWER numeral.now out.old out.new result }
         ensures cost { steps.new ≤ steps.old + 8 * length numeral.now + 624 }
     {
-        if self.is_too_long(numeral) {
-            push_fault(out, LineFault::LineTooLong.words());
-            true
-        } else if asks_a_line(self.settings.spelling, self.settings.target_mode) {
-            self.push_answer(numeral, out, steps)
-        } else {
-            self.push_moved(numeral, out, steps)
+        match self.reply_or_refuse(numeral, out, steps) {
+            Ok(()) => false,
+            Err(message) => {
+                push_fault(out, message.text);
+                true
+            }
         }
     }
 
@@ -258,11 +285,12 @@ impl ConvertRule {
         numeral: &[u8],
         out: &mut TextBuffer<N>,
         steps: &mut Steps<L>,
-    ) -> bool
+    ) -> Result<(), Message>
         requires short { length (asking_line self.now numeral.now) ≤ longest_line }
         requires line { asks_a_line self.now.spelling self.now.target_mode ≡ true }
         requires room { length out.old + MAX_ANSWER ≤ N }
-        ensures reply { AppendsAnswer (IsReply self.now) MAX_ANSWER numeral.now out.old out.new result }
+        ensures reply { Replies (IsReply self.now) message_text MAX_ANSWER numeral.now out.old out.new result }
+        ensures short { IfErr result (λ m. length m.text.now ≤ 64) }
         ensures cost { steps.new ≤ steps.old + 8 * length numeral.now + 624 }
     {
         let s = &self.settings;
@@ -271,12 +299,11 @@ impl ConvertRule {
         ) {
             Ok(image) => {
                 push_part(out, s, image, steps);
-                false
+                Ok(())
             }
-            Err(error) => {
-                push_refusal(out, error);
-                true
-            }
+            Err(error) => Err(Message {
+                text: error.message(),
+            }),
         }
     }
 
@@ -287,19 +314,27 @@ impl ConvertRule {
         numeral: &[u8],
         out: &mut TextBuffer<N>,
         steps: &mut Steps<L>,
-    ) -> bool
+    ) -> Result<(), Message>
         requires short { length (asking_line self.now numeral.now) ≤ longest_line }
         requires moved { asks_a_line self.now.spelling self.now.target_mode ≡ false }
         requires room { length out.old + MAX_ANSWER ≤ N }
-        ensures reply { AppendsAnswer (IsReply self.now) MAX_ANSWER numeral.now out.old out.new result }
+        ensures reply { Replies (IsReply self.now) message_text MAX_ANSWER numeral.now out.old out.new result }
+        ensures short { IfErr result (λ m. length m.text.now ≤ 64) }
         ensures cost { steps.new ≤ steps.old + 8 * length numeral.now + 624 }
     {
-        match source_number(&self.settings, numeral, steps) {
-            Ok(found) => push_image(out, &self.settings, &found, steps),
-            Err(message) => {
-                push_fault(out, message);
-                true
+        let s = &self.settings;
+        let found = match source_number(s, numeral, steps) {
+            Ok(found) => found,
+            Err(text) => return Err(Message { text }),
+        };
+        match image_of(s, &found) {
+            Some(image) => {
+                push_part(out, s, image, steps);
+                Ok(())
             }
+            None => Err(Message {
+                text: ParseFixedError::new(ParseErrorKind::Overflow).message(),
+            }),
         }
     }
 }
@@ -388,6 +423,31 @@ fn read_bits(settings: &Settings, word: &[u8]) -> Result<Shown, &'static str>
     }
 }
 
+/// Moves a number of the source to the target. `None`: it has no image there.
+fn image_of(settings: &Settings, found: &Shown) -> Option<Image>
+    requires { IsWide found.now.bits }
+    ensures image { MatchOption result (IsNotReformatted settings.now.target_mode settings.now.policy
+        settings.now.target found.now.bits settings.now.source.frac)
+        (λ image. HasImage settings.now found.now.bits found.now.overflowed (number_of_image image)
+        image.is_out_of_range) }
+    ensures range { IfSome result (λ image. IsInRange settings.now.target.signed settings.now.target.width
+        (number_of_image image)) }
+{
+    let s = settings;
+    let from = frac_of(s.source);
+    match reformat_mode(s.target, s.policy, s.target_mode, found.bits, from) {
+        Some((bits, target_overflowed)) => {
+            let (negative, magnitude) = sign_and_magnitude(bits);
+            Some(Image {
+                negative,
+                magnitude,
+                is_out_of_range: is_either(found.overflowed, target_overflowed),
+            })
+        }
+        None => None,
+    }
+}
+
 /// Appends the part that is asked for of a number of the source, moved to the target; or, if it has no image there, the
 /// fault. Returns whether that is so.
 pub fn push_image<const N: usize, L: Ledger>(
@@ -401,17 +461,9 @@ pub fn push_image<const N: usize, L: Ledger>(
     ensures pushed { HasPushed settings.now found.now.bits found.now.overflowed out.old out.new result }
     ensures cost { steps.new ≤ steps.old + 48 }
 {
-    let s = settings;
-    let from = frac_of(s.source);
-    match reformat_mode(s.target, s.policy, s.target_mode, found.bits, from) {
-        Some((bits, target_overflowed)) => {
-            let (negative, magnitude) = sign_and_magnitude(bits);
-            let image = Image {
-                negative,
-                magnitude,
-                is_out_of_range: is_either(found.overflowed, target_overflowed),
-            };
-            push_part(out, s, image, steps);
+    match image_of(settings, found) {
+        Some(image) => {
+            push_part(out, settings, image, steps);
             false
         }
         None => {
@@ -439,9 +491,13 @@ pub fn without_return(line: &[u8]) -> &[u8]
     }
 }
 
-impl<L: Ledger> LineRule<L> for ConvertRule {
+impl<L: Ledger> Rule<L> for ConvertRule {
     ghost use Rattle.std.proofs.Common.{lit<};
-    ghost use Rattle.fixed_command.specs.Lemmas.ReplyLemmas.{line_reply_one, long_by_its_prefix};
+    ghost use Rattle.fixed_command.specs.Lemmas.ReplyLemmas.{line_reply_one};
+
+    type Note = ();
+
+    type Cause = Message;
 
     const PER_BYTE: u64 = 8;
 
@@ -457,13 +513,25 @@ impl<L: Ledger> LineRule<L> for ConvertRule {
 
     ghost Answers = { λ rule. IsLineReply rule };
 
-    fn answer(&self, line: &[u8], out: &mut Output, steps: &mut Steps<L>) -> bool {
-        self.push_reply(without_return(line), out, steps)
+    ghost Notes = { λ rule line note. Unit {0} };
+
+    ghost refusal = { λ rule. message_text };
+
+    fn answer(&self, line: &[u8], out: &mut Output, steps: &mut Steps<L>) -> Result<(), Message> {
+        self.reply_or_refuse(without_return(line), out, steps)
+    }
+
+    fn push_refusal(&self, _line: &[u8], cause: &Message, out: &mut Output) {
+        push_error(cause, out);
     }
 
     ghost room_law = { lit< tt };
 
     ghost one_law = { λ rule. line_reply_one rule };
+}
+
+impl<L: Ledger> LineRule<L> for ConvertRule {
+    ghost use Rattle.fixed_command.specs.Lemmas.ReplyLemmas.{long_by_its_prefix};
 
     ghost kept_law = { λ rule. long_by_its_prefix rule };
 }

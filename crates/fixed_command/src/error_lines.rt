@@ -3,18 +3,20 @@
 //! A numeral is read into one format and not moved, and an error may be longer than a conversion. So these lines have a
 //! rule of their own.
 
-ghost use Rattle.std.specs.Prelude.{◌≡◌, ◌+◌, ◌*◌, ◌≤◌, length};
-ghost use Rattle.line_engine.specs.Output.{AppendsAnswer};
+ghost use Rattle.std.specs.Prelude.{◌+◌, ◌*◌, ◌≤◌, length};
 ghost use Rattle.fixed_command.specs.Errors.{IsErrorReply};
+ghost use Rattle.fixed_command.specs.Message.{message_text};
+ghost use Rattle.run_engine.specs.Reply.{Replies};
 
-use crate::convert::{frac_of, push_refusal};
-use crate::layout::Layout;
+use crate::convert::frac_of;
+use crate::layout::{Layout, too_long};
+use crate::message::Message;
 use fixed_bits::{Format, Policy, ReadMode};
 use fixed_numeral::Radix;
-use fixed_respell::{LineFault, push_fault};
 use fixed_show::{MAX_ERROR, Measure, push_measured};
 use fixed_steps::Steps;
-use line_engine::{LineRule, MAX_LINE, Output};
+use line_engine::{MAX_LINE, Output};
+use run_engine::{LineRule, Rule, push_error};
 use std::sync::ledger::Ledger;
 use text_buffer::TextBuffer;
 
@@ -33,15 +35,15 @@ pub struct ErrorSettings {
     pub measure: Measure,
 }
 
-/// Appends the error of a numeral, or the fault if it is refused. Returns whether it is.
+/// Appends the error of a numeral, or appends nothing and returns why the numeral is refused.
 fn push_reply<const N: usize, L: Ledger>(
     settings: &ErrorSettings,
     numeral: &[u8],
     out: &mut TextBuffer<N>,
     steps: &mut Steps<L>,
-) -> bool
+) -> Result<(), Message>
     requires room { length out.old + MAX_ERROR ≤ N }
-    ensures reply { AppendsAnswer (IsErrorReply settings.now) MAX_ERROR numeral.now out.old out.new result }
+    ensures reply { Replies (IsErrorReply settings.now) message_text MAX_ERROR numeral.now out.old out.new result }
     ensures cost { steps.new ≤ steps.old + 11 * length numeral.now + 1565 }
 {
     let s = settings;
@@ -49,11 +51,10 @@ fn push_reply<const N: usize, L: Ledger>(
     match push_measured(
         numeral, s.radix, s.format, s.policy, s.mode, s.measure, out, steps,
     ) {
-        Ok(()) => false,
-        Err(error) => {
-            push_refusal(out, error);
-            true
-        }
+        Ok(()) => Ok(()),
+        Err(error) => Err(Message {
+            text: error.message(),
+        }),
     }
 }
 
@@ -66,24 +67,16 @@ pub struct ErrorLines {
     pub layout: Layout,
 }
 
-impl ErrorLines {
-    /// Returns the same rule.
-    pub(crate) fn same(&self) -> ErrorLines
-        ensures settings { result.settings ≡ self.now.settings }
-        ensures layout { result.layout ≡ self.now.layout }
-    {
-        ErrorLines {
-            settings: self.settings,
-            layout: self.layout.same(),
-        }
-    }
-}
-
-impl<L: Ledger> LineRule<L> for ErrorLines {
+impl<L: Ledger> Rule<L> for ErrorLines {
     ghost use Rattle.std.proofs.Common.{lit<};
     ghost use Rattle.fixed_command.specs.Errors.{IsErrorLine, IsErrorReply};
     ghost use Rattle.fixed_command.specs.Lemmas.ErrorLemmas.{error_reply_one};
-    ghost use Rattle.fixed_command.specs.Lemmas.LayoutLemmas.{laid_out_one, long_by_its_prefix};
+    ghost use Rattle.fixed_command.specs.Lemmas.LayoutLemmas.{laid_out_one};
+    ghost use Rattle.fixed_command.specs.Message.{message_text};
+
+    type Note = ();
+
+    type Cause = Message;
 
     const PER_BYTE: u64 = 11;
 
@@ -99,21 +92,34 @@ impl<L: Ledger> LineRule<L> for ErrorLines {
 
     ghost Answers = { λ lines. IsErrorLine lines };
 
-    fn answer(&self, line: &[u8], out: &mut Output, steps: &mut Steps<L>) -> bool {
+    ghost Notes = { λ lines line note. Unit {0} };
+
+    ghost refusal = { λ lines. message_text };
+
+    fn answer(&self, line: &[u8], out: &mut Output, steps: &mut Steps<L>) -> Result<(), Message> {
         if line.len() > MAX_LINE {
-            push_fault(out, LineFault::LineTooLong.words());
-            return true;
+            return Err(too_long());
         }
         if self.layout.is_skipped(line) {
-            return false;
+            return Ok(());
         }
         push_reply(&self.settings, self.layout.numeral_of(line), out, steps)
+    }
+
+    fn push_refusal(&self, _line: &[u8], cause: &Message, out: &mut Output) {
+        push_error(cause, out);
     }
 
     ghost room_law = { lit< tt };
 
     ghost one_law = { λ lines. laid_out_one lines.layout (IsErrorReply lines.settings)
         (error_reply_one lines.settings) };
+}
+
+impl<L: Ledger> LineRule<L> for ErrorLines {
+    ghost use Rattle.fixed_command.specs.Errors.{IsErrorReply};
+    ghost use Rattle.fixed_command.specs.Lemmas.ErrorLemmas.{error_reply_one};
+    ghost use Rattle.fixed_command.specs.Lemmas.LayoutLemmas.{long_by_its_prefix};
 
     ghost kept_law = { λ lines. long_by_its_prefix lines.layout (IsErrorReply lines.settings)
         (error_reply_one lines.settings) };

@@ -13,12 +13,12 @@ ghost use Rattle.fixed_command.specs.Fields.{digits_of, has_part, is_after_group
 ghost use Rattle.fixed_command.specs.Fields.{marked, read_for, swapped};
 ghost use Rattle.line_engine.specs.AnswerText.{AnswerText};
 
-use crate::ConvertRule;
+use crate::convert::{ConvertRule, without_return};
 use column_engine::{FieldRule, MAX_RECORD, RecordBuffer};
 use fixed_numeral::Radix;
 use fixed_respell::push_fault;
 use fixed_steps::Steps;
-use line_engine::{LineRule, Output};
+use line_engine::Output;
 use std::sync::ledger::Ledger;
 
 /// What to do with an empty field.
@@ -230,7 +230,7 @@ impl<L: Ledger> FieldReply<L> for ConvertRule {
     ghost Replies = { λ rule. IsLineReply rule };
 
     fn reply_to(&self, line: &[u8], out: &mut Output, steps: &mut Steps<L>) -> bool {
-        self.answer(line, out, steps)
+        self.push_reply(without_return(line), out, steps)
     }
 
     ghost one_law = { λ rule. line_reply_one rule };

@@ -5,14 +5,17 @@
 //! more than 1,048,576 bytes is too long, even a blank one: the bytes that are kept of a line must be answered as the
 //! line is.
 
-ghost use Rattle.std.specs.Prelude.{◌≡◌, ◌≤◌, ◌+◌, ◌*◌, MatchOption, ◌<◌, length};
+ghost use Rattle.std.specs.Prelude.{◌≡◌, ◌≤◌, MatchOption, ◌<◌, length};
 ghost use Rattle.fixed_command.specs.Layout.{after_blanks, blanks_before, is_skipped, numeral_of};
 ghost use Rattle.fixed_command.specs.Layout.{trimmed, without_blanks};
+ghost use Rattle.fixed_respell.specs.Answer.{fault_message};
 
 use crate::convert::{ConvertRule, without_return};
-use fixed_respell::{LineFault, push_fault};
+use crate::message::Message;
+use fixed_respell::LineFault;
 use fixed_steps::Steps;
-use line_engine::{LineRule, MAX_ANSWER, MAX_LINE, Output};
+use line_engine::{MAX_ANSWER, MAX_LINE, Output};
+use run_engine::{LineRule, Rule, push_error};
 use std::marker::Model;
 use std::sync::ledger::Ledger;
 use text_buffer::TextBuffer;
@@ -143,25 +146,27 @@ pub struct LaidOutRule {
     pub layout: Layout,
 }
 
-impl LaidOutRule {
-    /// Returns the same rule.
-    pub(crate) fn same(&self) -> LaidOutRule
-        ensures rule { result.rule ≡ self.now.rule }
-        ensures layout { result.layout ≡ self.now.layout }
-    {
-        LaidOutRule {
-            rule: ConvertRule::new(*self.rule.settings()),
-            layout: self.layout.same(),
-        }
+/// The fault of a line that is too long.
+pub(crate) fn too_long() -> Message
+    ensures text { result.text.now ≡ fault_message LineFault.LineTooLong }
+    ensures short { length result.text.now ≤ 64 }
+{
+    Message {
+        text: LineFault::LineTooLong.words(),
     }
 }
 
-impl<L: Ledger> LineRule<L> for LaidOutRule {
+impl<L: Ledger> Rule<L> for LaidOutRule {
     ghost use Rattle.std.proofs.Common.{lit<};
     ghost use Rattle.fixed_command.specs.Convert.{IsReply};
     ghost use Rattle.fixed_command.specs.Layout.{IsLaidOut};
-    ghost use Rattle.fixed_command.specs.Lemmas.LayoutLemmas.{laid_out_one, long_by_its_prefix};
+    ghost use Rattle.fixed_command.specs.Lemmas.LayoutLemmas.{laid_out_one};
     ghost use Rattle.fixed_command.specs.Lemmas.ReplyLemmas.{reply_one};
+    ghost use Rattle.fixed_command.specs.Message.{message_text};
+
+    type Note = ();
+
+    type Cause = Message;
 
     const PER_BYTE: u64 = 8;
 
@@ -177,22 +182,35 @@ impl<L: Ledger> LineRule<L> for LaidOutRule {
 
     ghost Answers = { λ laid. IsLaidOut laid.layout (IsReply laid.rule) };
 
-    fn answer(&self, line: &[u8], out: &mut Output, steps: &mut Steps<L>) -> bool {
+    ghost Notes = { λ laid line note. Unit {0} };
+
+    ghost refusal = { λ laid. message_text };
+
+    fn answer(&self, line: &[u8], out: &mut Output, steps: &mut Steps<L>) -> Result<(), Message> {
         if line.len() > MAX_LINE {
-            push_fault(out, LineFault::LineTooLong.words());
-            return true;
+            return Err(too_long());
         }
         if self.layout.is_skipped(line) {
-            return false;
+            return Ok(());
         }
         self.rule
-            .push_reply(self.layout.numeral_of(line), out, steps)
+            .reply_or_refuse(self.layout.numeral_of(line), out, steps)
+    }
+
+    fn push_refusal(&self, _line: &[u8], cause: &Message, out: &mut Output) {
+        push_error(cause, out);
     }
 
     ghost room_law = { lit< tt };
 
     ghost one_law = { λ laid. laid_out_one laid.layout (IsReply laid.rule)
         (reply_one laid.rule) };
+}
+
+impl<L: Ledger> LineRule<L> for LaidOutRule {
+    ghost use Rattle.fixed_command.specs.Convert.{IsReply};
+    ghost use Rattle.fixed_command.specs.Lemmas.LayoutLemmas.{long_by_its_prefix};
+    ghost use Rattle.fixed_command.specs.Lemmas.ReplyLemmas.{reply_one};
 
     ghost kept_law = { λ laid. long_by_its_prefix laid.layout (IsReply laid.rule)
         (reply_one laid.rule) };

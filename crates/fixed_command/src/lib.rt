@@ -22,7 +22,9 @@ pub mod laws;
 pub mod layout;
 pub mod least_lines;
 pub mod line_blocks;
+pub mod message;
 mod named_line;
+pub mod observed;
 pub mod outcome;
 pub mod print;
 pub mod refused;
@@ -33,7 +35,7 @@ pub mod task;
 pub mod watch;
 pub mod words;
 
-pub use amounts::{AmountLines, AmountsEnd, amount_field_explanation, run_amounts, status_of};
+pub use amounts::{AmountLines, amount_field_explanation, run_amounts};
 pub use bit_field::field_named;
 pub use blocks::{Question, run_blocks};
 pub use column::{ColumnConversion, convert_amounts, convert_column};
@@ -51,15 +53,20 @@ pub use laid_list::LaidOutList;
 pub use layout::{LaidOutRule, Layout, MAX_PREFIX};
 pub use least_lines::LeastLines;
 pub use line_blocks::BlockRule;
+pub use message::Message;
+pub use observed::{CountedRule, LineReport, RefusedLines, Worded, reported};
 pub use outcome::{
     MAX_TALLY, Outcome, Place, Tally, error_report, has_error, outcome_of, place_name, tally_text,
 };
 pub use print::{Places, Print};
 pub use refused::{RefusedWord, first_refused};
 pub use renamed::RenamedRule;
+pub use run_engine::status_of;
 pub use spelling::Spelling;
 pub use swapped::SwappedRule;
-pub use task::{Limit, Task, bytes_within, greater_end, run_convert, run_task, whole_within};
+pub use task::{
+    Limit, Task, TaskEnd, bytes_within, greater_end, run_convert, run_task, whole_within,
+};
 pub use watch::{Refusals, RefusedLine, Watch, Watched};
 pub use words::{
     mode_named, policy_named, print_named, radix_named, spelling_named, target_mode_named,

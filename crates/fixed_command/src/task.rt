@@ -1,13 +1,13 @@
 //! The tasks of commands, over any source and any sink.
 
-ghost use Rattle.std.specs.Prelude.{◌≡◌, ◌≤◌, MatchOption, Some, max};
+ghost use Rattle.std.specs.Prelude.{◌≡◌, ◌≤◌, ◌+◌, MatchOption, Some, max};
 ghost use Rattle.line_engine.specs.Program.{outside};
 ghost use Rattle.line_engine.specs.Status.{code_of};
 ghost use Rattle.fixed_constants.specs.Forms.{IsFormAnswer};
 ghost use Rattle.fixed_constants.specs.Plain.{IsPlainAnswer};
 ghost use Rattle.fixed_columns.specs.Answer as columns;
 ghost use Rattle.fixed_enclose.specs.Answer as enclose;
-ghost use Rattle.fixed_respell.specs.Answer.{IsAnswer};
+ghost use Rattle.fixed_respell.specs.Answer.{IsAnswer, fault_message};
 ghost use Rattle.fixed_command.specs.Convert.{IsLineReply, IsReply};
 ghost use Rattle.fixed_command.specs.Errors.{IsErrorLine};
 ghost use Rattle.fixed_command.specs.LaidList.{laid_out};
@@ -17,8 +17,14 @@ ghost use Rattle.fixed_command.specs.Limits.{limit_of, max_limit, no_limit, whol
 ghost use Rattle.fixed_command.specs.LineBlocks.{IsLineBlock};
 ghost use Rattle.fixed_command.specs.Products.{IsProduct};
 ghost use Rattle.fixed_command.specs.Renamed.{IsRenamedAnswer};
+ghost use Rattle.fixed_command.specs.Reports.{ReportsCounted, ReportsRefused, ReportsReturned, TaskReports};
+ghost use Rattle.fixed_enclose.specs.declared.rule.EncloseRule.{EncloseRule};
+ghost use Rattle.fixed_respell.specs.Refusal.{refusal_message, refusal_text};
+ghost use Rattle.fixed_respell.specs.declared.respell_rule.RespellRule.{RespellRule};
 ghost use Rattle.fixed_command.specs.Runs.{HasLineRun, IsWholeRun, TaskRuns, reported_extra, reported_per_byte};
 ghost use Rattle.line_engine.specs.WholeRun.{EndsBeforeWriting};
+ghost use Rattle.run_engine.specs.LineRun.{HasLinesRun};
+ghost use Rattle.run_engine.specs.Reply.{Returns};
 
 use crate::ConvertRule;
 use crate::blocks::Question;
@@ -28,19 +34,24 @@ use crate::laid_list::LaidOutList;
 use crate::layout::{LaidOutRule, Layout};
 use crate::least_lines::LeastLines;
 use crate::line_blocks::BlockRule;
-use crate::outcome::error_report;
+use crate::observed::{CountedRule, LineReport, RefusedLines, reported};
+use crate::outcome::Tally;
 use crate::renamed::RenamedRule;
 use crate::watch::{
-    Product, ReportedLaidOut, Watch, WatchedBlocks, WatchedEnclosures, WatchedErrors,
-    WatchedLaidOut, WatchedLines, WatchedNumerals, WatchedWhole,
+    Product, Refusals, Watch, WatchedBlocks, WatchedEnclosures, WatchedLines, WatchedWhole,
 };
 use fixed_columns::ColumnsRule;
 use fixed_constants::{FormRule, PlainRule};
+use fixed_enclose::EncloseRule;
+use fixed_report::ErrorReport;
+use fixed_respell::RespellRule;
 use fixed_show::Form;
 use fixed_steps::Steps;
 use line_engine::{
-    LineRule, MAX_LIMIT, NO_LIMIT, Sink, Source, Status, WholeRule, run_lines, run_whole,
+    LineRule as AskedRule, MAX_LIMIT, NO_LIMIT, Sink, Source, Status, WholeRule, run_lines,
+    run_whole,
 };
+use run_engine::{LineRule, LinesEnd, Refusals as Refused, Watch as Observer, run_watched};
 use std::alloc::Global;
 use std::marker::Model;
 use std::sync::ledger::Ledger;
@@ -98,7 +109,7 @@ pub enum Task<'a> {
     /// The same for lines as people write them.
     LaidOut(LaidOutRule),
     /// The same, with a report of the outcomes and of the greatest error.
-    Reported(LaidOutRule),
+    Reported(CountedRule),
     /// Each line is answered with the error of its numeral.
     Errors(ErrorLines),
     /// Each line is answered with the enclosure of its numeral.
@@ -119,8 +130,64 @@ pub enum Task<'a> {
     Columns,
 }
 
-/// Answers each line of an input by a rule.
-fn run_rule<R: LineRule<L>, S: Source, K: Sink, L: Ledger>(
+/// How a run of a task ended, and what it reports.
+#[derive(Drop)]
+pub struct TaskEnd {
+    /// Its status.
+    pub status: Status,
+    /// The refused lines: their count, and the first.
+    pub refusals: Refusals,
+    /// The outcomes of the numerals, if a report of them was requested.
+    pub tally: Tally,
+    /// The greatest error, if a report of it was requested.
+    pub errors: Option<ErrorReport>,
+}
+
+impl TaskEnd {
+    /// The end of a task without a report of outcomes.
+    fn of(status: Status, refusals: Refusals) -> TaskEnd
+        ensures status { result.status ≡ status }
+        ensures refusals { result.refusals ≡ refusals }
+    {
+        TaskEnd {
+            status,
+            refusals,
+            tally: Tally::new(),
+            errors: None,
+        }
+    }
+}
+
+/// Answers each line of an input within the limit by a rule, and tells an observer.
+fn run_rule<R: LineRule<L>, W: Observer<R, L> + Drop, S: Source, K: Sink, L: Ledger>(
+    alloc: Global,
+    limit: &Option<Limit>,
+    rule: &R,
+    watch: W,
+    source: &mut S,
+    sink: &mut K,
+    steps: &mut Steps<L>,
+) -> LinesEnd<W>
+    ensures run { HasLineRun (R.Answers rule.now) (limit_of limit.now) (R.PER_BYTE + W.PER_BYTE) (R.EXTRA + W.EXTRA)
+        (outside (S.left source.old) (S.asked source.old) (S.failures source.old)
+        (K.written sink.old) (K.failures sink.old) steps.old)
+        (outside (S.left source.new) (S.asked source.new) (S.failures source.new)
+        (K.written sink.new) (K.failures sink.new) steps.new) result.status }
+    ensures saw { ¬ (result.status ≡ Status.NoMemory) → HasLinesRun rule.now (R.Answers rule.now)
+        (Returns (R.Notes rule.now) (R.refusal rule.now)) (W.Saw rule.now) (R.PER_BYTE + W.PER_BYTE)
+        (R.EXTRA + W.EXTRA) (limit_of limit.now)
+        (outside (S.left source.old) (S.asked source.old) (S.failures source.old)
+        (K.written sink.old) (K.failures sink.old) steps.old)
+        (outside (S.left source.new) (S.asked source.new) (S.failures source.new)
+        (K.written sink.new) (K.failures sink.new) steps.new) result.status watch result.watch }
+    ensures memory { result.status ≡ Status.NoMemory → (source.new ≡ source.old) × (sink.new ≡ sink.old)
+        × (steps.new ≡ steps.old) }
+{
+    run_watched(alloc, bytes_within(limit), rule, watch, source, sink, steps)
+}
+
+/// Answers each line of an input by a rule for questions.
+fn run_asked<R: AskedRule<L>, S: Source, K: Sink, L: Ledger>(
     alloc: Global,
     limit: u64,
     rule: &R,
@@ -188,24 +255,33 @@ pub fn whole_within(limit: &Option<Limit>) -> u64
 fn run_words<S: Source, K: Sink, L: Ledger>(
     alloc: Global,
     limit: &Option<Limit>,
-    watch: &Watch,
     source: &mut S,
     sink: &mut K,
     steps: &mut Steps<L>,
-) -> Status
+) -> TaskEnd
     ensures run { HasLineRun IsAnswer (limit_of limit.now) 8 624
         (outside (S.left source.old) (S.asked source.old) (S.failures source.old)
         (K.written sink.old) (K.failures sink.old) steps.old)
         (outside (S.left source.new) (S.asked source.new) (S.failures source.new)
+        (K.written sink.new) (K.failures sink.new) steps.new) result.status }
+    ensures reports { ¬ (result.status ≡ Status.NoMemory) → ReportsRefused RespellRule IsAnswer
+        (refusal_text fault_message) (refusal_message fault_message) 8 624 (limit_of limit.now)
+        (outside (S.left source.old) (S.asked source.old) (S.failures source.old)
+        (K.written sink.old) (K.failures sink.old) steps.old)
+        (outside (S.left source.new) (S.asked source.new) (S.failures source.new)
         (K.written sink.new) (K.failures sink.new) steps.new) result }
-    ensures memory { result ≡ Status.NoMemory → sink.new ≡ sink.old }
+    ensures memory { result.status ≡ Status.NoMemory → sink.new ≡ sink.old }
 {
-    let rule = WatchedLines {
-        watch: Watch::new(),
-    };
-    let status = run_rule(alloc, bytes_within(limit), &rule, source, sink, steps);
-    watch.take(&rule.watch);
-    status
+    let end = run_rule(
+        alloc,
+        limit,
+        &RespellRule,
+        Refused::new(),
+        source,
+        sink,
+        steps,
+    );
+    TaskEnd::of(end.status, reported(&end.watch))
 }
 
 /// Answers each line of an input, as people write them, as `fixed_tool` does.
@@ -213,17 +289,16 @@ fn run_laid_words<S: Source, K: Sink, L: Ledger>(
     alloc: Global,
     limit: &Option<Limit>,
     layout: &Layout,
-    watch: &Watch,
     source: &mut S,
     sink: &mut K,
     steps: &mut Steps<L>,
-) -> Status
+) -> TaskEnd
     ensures run { HasLineRun (AnswersLaidOut layout.now IsAnswer) (limit_of limit.now) 8 624
         (outside (S.left source.old) (S.asked source.old) (S.failures source.old)
         (K.written sink.old) (K.failures sink.old) steps.old)
         (outside (S.left source.new) (S.asked source.new) (S.failures source.new)
-        (K.written sink.new) (K.failures sink.new) steps.new) result }
-    ensures memory { result ≡ Status.NoMemory → sink.new ≡ sink.old }
+        (K.written sink.new) (K.failures sink.new) steps.new) result.status }
+    ensures memory { result.status ≡ Status.NoMemory → sink.new ≡ sink.old }
 {
     let laid = LaidOutLines {
         rule: WatchedLines {
@@ -231,33 +306,41 @@ fn run_laid_words<S: Source, K: Sink, L: Ledger>(
         },
         layout: layout.same(),
     };
-    let status = run_rule(alloc, bytes_within(limit), &laid, source, sink, steps);
-    watch.take(&laid.rule.watch);
-    status
+    let status = run_asked(alloc, bytes_within(limit), &laid, source, sink, steps);
+    TaskEnd::of(status, laid.rule.watch.refusals())
 }
 
 /// Answers each line of an input with the enclosure of its numeral.
 fn run_enclosures<S: Source, K: Sink, L: Ledger>(
     alloc: Global,
     limit: &Option<Limit>,
-    watch: &Watch,
     source: &mut S,
     sink: &mut K,
     steps: &mut Steps<L>,
-) -> Status
+) -> TaskEnd
     ensures run { HasLineRun enclose.IsAnswer (limit_of limit.now) 16 1248
         (outside (S.left source.old) (S.asked source.old) (S.failures source.old)
         (K.written sink.old) (K.failures sink.old) steps.old)
         (outside (S.left source.new) (S.asked source.new) (S.failures source.new)
+        (K.written sink.new) (K.failures sink.new) steps.new) result.status }
+    ensures reports { ¬ (result.status ≡ Status.NoMemory) → ReportsRefused EncloseRule enclose.IsAnswer
+        (refusal_text enclose.fault_message) (refusal_message enclose.fault_message) 16 1248 (limit_of limit.now)
+        (outside (S.left source.old) (S.asked source.old) (S.failures source.old)
+        (K.written sink.old) (K.failures sink.old) steps.old)
+        (outside (S.left source.new) (S.asked source.new) (S.failures source.new)
         (K.written sink.new) (K.failures sink.new) steps.new) result }
-    ensures memory { result ≡ Status.NoMemory → sink.new ≡ sink.old }
+    ensures memory { result.status ≡ Status.NoMemory → sink.new ≡ sink.old }
 {
-    let rule = WatchedEnclosures {
-        watch: Watch::new(),
-    };
-    let status = run_rule(alloc, bytes_within(limit), &rule, source, sink, steps);
-    watch.take(&rule.watch);
-    status
+    let end = run_rule(
+        alloc,
+        limit,
+        &EncloseRule,
+        Refused::new(),
+        source,
+        sink,
+        steps,
+    );
+    TaskEnd::of(end.status, reported(&end.watch))
 }
 
 /// Answers each line of an input, as people write them, with the enclosure of its numeral.
@@ -265,17 +348,16 @@ fn run_laid_enclosures<S: Source, K: Sink, L: Ledger>(
     alloc: Global,
     limit: &Option<Limit>,
     layout: &Layout,
-    watch: &Watch,
     source: &mut S,
     sink: &mut K,
     steps: &mut Steps<L>,
-) -> Status
+) -> TaskEnd
     ensures run { HasLineRun (AnswersLaidOut layout.now enclose.IsAnswer) (limit_of limit.now) 16 1248
         (outside (S.left source.old) (S.asked source.old) (S.failures source.old)
         (K.written sink.old) (K.failures sink.old) steps.old)
         (outside (S.left source.new) (S.asked source.new) (S.failures source.new)
-        (K.written sink.new) (K.failures sink.new) steps.new) result }
-    ensures memory { result ≡ Status.NoMemory → sink.new ≡ sink.old }
+        (K.written sink.new) (K.failures sink.new) steps.new) result.status }
+    ensures memory { result.status ≡ Status.NoMemory → sink.new ≡ sink.old }
 {
     let enclosures = LaidOutLines {
         rule: WatchedEnclosures {
@@ -283,9 +365,8 @@ fn run_laid_enclosures<S: Source, K: Sink, L: Ledger>(
         },
         layout: layout.same(),
     };
-    let status = run_rule(alloc, bytes_within(limit), &enclosures, source, sink, steps);
-    watch.take(&enclosures.rule.watch);
-    status
+    let status = run_asked(alloc, bytes_within(limit), &enclosures, source, sink, steps);
+    TaskEnd::of(status, enclosures.rule.watch.refusals())
 }
 
 /// Answers each line of an input in a form, as a question requests.
@@ -294,25 +375,23 @@ fn run_questions<S: Source, K: Sink, L: Ledger>(
     limit: &Option<Limit>,
     form: Form,
     question: Question,
-    watch: &Watch,
     source: &mut S,
     sink: &mut K,
     steps: &mut Steps<L>,
-) -> Status
+) -> TaskEnd
     ensures run { HasLineRun (IsLineBlock form question) (limit_of limit.now) 26 3307
         (outside (S.left source.old) (S.asked source.old) (S.failures source.old)
         (K.written sink.old) (K.failures sink.old) steps.old)
         (outside (S.left source.new) (S.asked source.new) (S.failures source.new)
-        (K.written sink.new) (K.failures sink.new) steps.new) result }
-    ensures memory { result ≡ Status.NoMemory → sink.new ≡ sink.old }
+        (K.written sink.new) (K.failures sink.new) steps.new) result.status }
+    ensures memory { result.status ≡ Status.NoMemory → sink.new ≡ sink.old }
 {
     let rule = WatchedBlocks {
         rule: BlockRule { form, question },
         watch: Watch::new(),
     };
-    let status = run_rule(alloc, bytes_within(limit), &rule, source, sink, steps);
-    watch.take(&rule.watch);
-    status
+    let status = run_asked(alloc, bytes_within(limit), &rule, source, sink, steps);
+    TaskEnd::of(status, rule.watch.refusals())
 }
 
 /// Answers each line of an input, as people write them, in a form, as a question requests.
@@ -321,18 +400,17 @@ fn run_laid_questions<S: Source, K: Sink, L: Ledger>(
     limit: &Option<Limit>,
     rule: BlockRule,
     layout: &Layout,
-    watch: &Watch,
     source: &mut S,
     sink: &mut K,
     steps: &mut Steps<L>,
-) -> Status
+) -> TaskEnd
     ensures run { HasLineRun (AnswersLaidOut layout.now (IsLineBlock rule.form rule.question)) (limit_of limit.now) 26
         3307
         (outside (S.left source.old) (S.asked source.old) (S.failures source.old)
         (K.written sink.old) (K.failures sink.old) steps.old)
         (outside (S.left source.new) (S.asked source.new) (S.failures source.new)
-        (K.written sink.new) (K.failures sink.new) steps.new) result }
-    ensures memory { result ≡ Status.NoMemory → sink.new ≡ sink.old }
+        (K.written sink.new) (K.failures sink.new) steps.new) result.status }
+    ensures memory { result.status ≡ Status.NoMemory → sink.new ≡ sink.old }
 {
     let questions = LaidOutLines {
         rule: WatchedBlocks {
@@ -341,9 +419,8 @@ fn run_laid_questions<S: Source, K: Sink, L: Ledger>(
         },
         layout: layout.same(),
     };
-    let status = run_rule(alloc, bytes_within(limit), &questions, source, sink, steps);
-    watch.take(&questions.rule.watch);
-    status
+    let status = run_asked(alloc, bytes_within(limit), &questions, source, sink, steps);
+    TaskEnd::of(status, questions.rule.watch.refusals())
 }
 
 /// Answers each line of an input with the conversion of its numeral. It allocates one line buffer before the first
@@ -352,26 +429,26 @@ pub fn run_convert<S: Source, K: Sink, L: Ledger>(
     alloc: Global,
     limit: &Option<Limit>,
     rule: &ConvertRule,
-    watch: &Watch,
     source: &mut S,
     sink: &mut K,
     steps: &mut Steps<L>,
-) -> Status
+) -> TaskEnd
     ensures run { HasLineRun (IsLineReply rule.now) (limit_of limit.now) 8 624
         (outside (S.left source.old) (S.asked source.old) (S.failures source.old)
         (K.written sink.old) (K.failures sink.old) steps.old)
         (outside (S.left source.new) (S.asked source.new) (S.failures source.new)
+        (K.written sink.new) (K.failures sink.new) steps.new) result.status }
+    ensures reports { ¬ (result.status ≡ Status.NoMemory) → ReportsReturned rule.now (IsLineReply rule.now) 8 624
+        (limit_of limit.now)
+        (outside (S.left source.old) (S.asked source.old) (S.failures source.old)
+        (K.written sink.old) (K.failures sink.old) steps.old)
+        (outside (S.left source.new) (S.asked source.new) (S.failures source.new)
         (K.written sink.new) (K.failures sink.new) steps.new) result }
-    ensures memory { result ≡ Status.NoMemory → (source.new ≡ source.old) × (sink.new ≡ sink.old)
+    ensures memory { result.status ≡ Status.NoMemory → (source.new ≡ source.old) × (sink.new ≡ sink.old)
         × (steps.new ≡ steps.old) }
 {
-    let rule = WatchedNumerals {
-        rule: ConvertRule::new(*rule.settings()),
-        watch: Watch::new(),
-    };
-    let status = run_rule(alloc, bytes_within(limit), &rule, source, sink, steps);
-    watch.take(&rule.watch);
-    status
+    let end = run_rule(alloc, limit, rule, RefusedLines::new(), source, sink, steps);
+    TaskEnd::of(end.status, reported(&end.watch.refusals))
 }
 
 /// Answers each line of an input, as people write them, with the conversion of its numeral.
@@ -379,25 +456,25 @@ fn run_laid_out<S: Source, K: Sink, L: Ledger>(
     alloc: Global,
     limit: &Option<Limit>,
     laid: &LaidOutRule,
-    watch: &Watch,
     source: &mut S,
     sink: &mut K,
     steps: &mut Steps<L>,
-) -> Status
+) -> TaskEnd
     ensures run { HasLineRun (IsLaidOut laid.now.layout (IsReply laid.now.rule)) (limit_of limit.now) 8 624
         (outside (S.left source.old) (S.asked source.old) (S.failures source.old)
         (K.written sink.old) (K.failures sink.old) steps.old)
         (outside (S.left source.new) (S.asked source.new) (S.failures source.new)
+        (K.written sink.new) (K.failures sink.new) steps.new) result.status }
+    ensures reports { ¬ (result.status ≡ Status.NoMemory) → ReportsReturned laid.now
+        (IsLaidOut laid.now.layout (IsReply laid.now.rule)) 8 624 (limit_of limit.now)
+        (outside (S.left source.old) (S.asked source.old) (S.failures source.old)
+        (K.written sink.old) (K.failures sink.old) steps.old)
+        (outside (S.left source.new) (S.asked source.new) (S.failures source.new)
         (K.written sink.new) (K.failures sink.new) steps.new) result }
-    ensures memory { result ≡ Status.NoMemory → sink.new ≡ sink.old }
+    ensures memory { result.status ≡ Status.NoMemory → sink.new ≡ sink.old }
 {
-    let rule = WatchedLaidOut {
-        laid: laid.same(),
-        watch: Watch::new(),
-    };
-    let status = run_rule(alloc, bytes_within(limit), &rule, source, sink, steps);
-    watch.take(&rule.watch);
-    status
+    let end = run_rule(alloc, limit, laid, RefusedLines::new(), source, sink, steps);
+    TaskEnd::of(end.status, reported(&end.watch.refusals))
 }
 
 /// Answers each line of an input with the error of its numeral.
@@ -405,25 +482,33 @@ fn run_errors<S: Source, K: Sink, L: Ledger>(
     alloc: Global,
     limit: &Option<Limit>,
     lines: &ErrorLines,
-    watch: &Watch,
     source: &mut S,
     sink: &mut K,
     steps: &mut Steps<L>,
-) -> Status
+) -> TaskEnd
     ensures run { HasLineRun (IsErrorLine lines.now) (limit_of limit.now) 11 1565
         (outside (S.left source.old) (S.asked source.old) (S.failures source.old)
         (K.written sink.old) (K.failures sink.old) steps.old)
         (outside (S.left source.new) (S.asked source.new) (S.failures source.new)
+        (K.written sink.new) (K.failures sink.new) steps.new) result.status }
+    ensures reports { ¬ (result.status ≡ Status.NoMemory) → ReportsReturned lines.now (IsErrorLine lines.now) 11 1565
+        (limit_of limit.now)
+        (outside (S.left source.old) (S.asked source.old) (S.failures source.old)
+        (K.written sink.old) (K.failures sink.old) steps.old)
+        (outside (S.left source.new) (S.asked source.new) (S.failures source.new)
         (K.written sink.new) (K.failures sink.new) steps.new) result }
-    ensures memory { result ≡ Status.NoMemory → sink.new ≡ sink.old }
+    ensures memory { result.status ≡ Status.NoMemory → sink.new ≡ sink.old }
 {
-    let rule = WatchedErrors {
-        lines: lines.same(),
-        watch: Watch::new(),
-    };
-    let status = run_rule(alloc, bytes_within(limit), &rule, source, sink, steps);
-    watch.take(&rule.watch);
-    status
+    let end = run_rule(
+        alloc,
+        limit,
+        lines,
+        RefusedLines::new(),
+        source,
+        sink,
+        steps,
+    );
+    TaskEnd::of(end.status, reported(&end.watch.refusals))
 }
 
 /// Answers each line of an input, as people write them, with the conversion of its numeral, and reports the outcomes
@@ -431,27 +516,33 @@ fn run_errors<S: Source, K: Sink, L: Ledger>(
 fn run_reported<S: Source, K: Sink, L: Ledger>(
     alloc: Global,
     limit: &Option<Limit>,
-    laid: &LaidOutRule,
-    watch: &Watch,
+    counted: &CountedRule,
     source: &mut S,
     sink: &mut K,
     steps: &mut Steps<L>,
-) -> Status
-    ensures run { HasLineRun (IsLaidOut laid.now.layout (IsReply laid.now.rule)) (limit_of limit.now) reported_per_byte
-        reported_extra
+) -> TaskEnd
+    ensures run { HasLineRun (IsLaidOut counted.now.laid.layout (IsReply counted.now.laid.rule))
+        (limit_of limit.now) reported_per_byte reported_extra
+        (outside (S.left source.old) (S.asked source.old) (S.failures source.old)
+        (K.written sink.old) (K.failures sink.old) steps.old)
+        (outside (S.left source.new) (S.asked source.new) (S.failures source.new)
+        (K.written sink.new) (K.failures sink.new) steps.new) result.status }
+    ensures reports { ¬ (result.status ≡ Status.NoMemory) → ReportsCounted counted.now (limit_of limit.now)
         (outside (S.left source.old) (S.asked source.old) (S.failures source.old)
         (K.written sink.old) (K.failures sink.old) steps.old)
         (outside (S.left source.new) (S.asked source.new) (S.failures source.new)
         (K.written sink.new) (K.failures sink.new) steps.new) result }
-    ensures memory { result ≡ Status.NoMemory → sink.new ≡ sink.old }
+    ensures memory { result.status ≡ Status.NoMemory → sink.new ≡ sink.old }
 {
-    let rule = ReportedLaidOut {
-        laid: laid.same(),
-        watch: Watch::of_errors(error_report(alloc, laid.rule.settings())),
-    };
-    let status = run_rule(alloc, bytes_within(limit), &rule, source, sink, steps);
-    watch.take(&rule.watch);
-    status
+    let report = LineReport::new(alloc, &counted.laid);
+    let end = run_rule(alloc, limit, counted, report, source, sink, steps);
+    let LinesEnd { status, watch } = end;
+    TaskEnd {
+        status,
+        refusals: reported(&watch.refusals),
+        tally: watch.tally,
+        errors: Some(watch.errors),
+    }
 }
 
 /// Answers a constants file within the limit, with any blanks and comments, with its text in a form. Writes nothing for
@@ -460,30 +551,28 @@ fn run_constants<S: Source, K: Sink, L: Ledger>(
     alloc: Global,
     limit: &Option<Limit>,
     rule: &FormRule<'_>,
-    watch: &Watch,
     source: &mut S,
     sink: &mut K,
     steps: &mut Steps<L>,
-) -> Status
+) -> TaskEnd
     ensures run { IsWholeRun (IsProduct (IsPlainAnswer (IsRenamedAnswer
         (IsFormAnswer rule.now.form rule.now.guard.now)))) (whole_limit_of limit.now)
         (outside (S.left source.old) (S.asked source.old) (S.failures source.old)
         (K.written sink.old) (K.failures sink.old) steps.old)
         (outside (S.left source.new) (S.asked source.new) (S.failures source.new)
-        (K.written sink.new) (K.failures sink.new) steps.new) result }
-    ensures memory { result ≡ Status.NoMemory → sink.new ≡ sink.old }
+        (K.written sink.new) (K.failures sink.new) steps.new) result.status }
+    ensures memory { result.status ≡ Status.NoMemory → sink.new ≡ sink.old }
 {
+    let watch = Watch::new();
     let renamed = RenamedRule { rule };
     let rule = PlainRule { rule: &renamed };
-    let watched = WatchedWhole { rule: &rule, watch };
-    run_whole_rule(
-        alloc,
-        whole_within(limit),
-        &Product { rule: &watched },
-        source,
-        sink,
-        steps,
-    )
+    let watched = WatchedWhole {
+        rule: &rule,
+        watch: &watch,
+    };
+    let product = Product { rule: &watched };
+    let status = run_whole_rule(alloc, whole_within(limit), &product, source, sink, steps);
+    TaskEnd::of(status, watch.refusals())
 }
 
 /// Answers a whole input within the limit with the least format of its numerals.
@@ -491,20 +580,24 @@ fn run_least<S: Source, K: Sink, L: Ledger>(
     alloc: Global,
     limit: &Option<Limit>,
     rule: &LeastLines,
-    watch: &Watch,
     source: &mut S,
     sink: &mut K,
     steps: &mut Steps<L>,
-) -> Status
+) -> TaskEnd
     ensures run { IsWholeRun (IsLeastWritten rule.now) (whole_limit_of limit.now)
         (outside (S.left source.old) (S.asked source.old) (S.failures source.old)
         (K.written sink.old) (K.failures sink.old) steps.old)
         (outside (S.left source.new) (S.asked source.new) (S.failures source.new)
-        (K.written sink.new) (K.failures sink.new) steps.new) result }
-    ensures memory { result ≡ Status.NoMemory → sink.new ≡ sink.old }
+        (K.written sink.new) (K.failures sink.new) steps.new) result.status }
+    ensures memory { result.status ≡ Status.NoMemory → sink.new ≡ sink.old }
 {
-    let watched = WatchedWhole { rule, watch };
-    run_whole_rule(alloc, whole_within(limit), &watched, source, sink, steps)
+    let watch = Watch::new();
+    let watched = WatchedWhole {
+        rule,
+        watch: &watch,
+    };
+    let status = run_whole_rule(alloc, whole_within(limit), &watched, source, sink, steps);
+    TaskEnd::of(status, watch.refusals())
 }
 
 /// Answers a whole input within the limit, a list as people write it, with the least format of its numerals.
@@ -513,97 +606,107 @@ fn run_laid_least<S: Source, K: Sink, L: Ledger>(
     limit: &Option<Limit>,
     least: &LeastLines,
     layout: &Layout,
-    watch: &Watch,
     source: &mut S,
     sink: &mut K,
     steps: &mut Steps<L>,
-) -> Status
+) -> TaskEnd
     ensures run { IsWholeRun (λ input. IsLeastWritten least.now (laid_out (Some layout.now) input))
         (whole_limit_of limit.now)
         (outside (S.left source.old) (S.asked source.old) (S.failures source.old)
         (K.written sink.old) (K.failures sink.old) steps.old)
         (outside (S.left source.new) (S.asked source.new) (S.failures source.new)
-        (K.written sink.new) (K.failures sink.new) steps.new) result }
-    ensures memory { result ≡ Status.NoMemory → sink.new ≡ sink.old }
+        (K.written sink.new) (K.failures sink.new) steps.new) result.status }
+    ensures memory { result.status ≡ Status.NoMemory → sink.new ≡ sink.old }
 {
+    let watch = Watch::new();
     let rule = LaidOutList {
         rule: least,
         layout,
     };
-    let watched = WatchedWhole { rule: &rule, watch };
-    run_whole_rule(alloc, whole_within(limit), &watched, source, sink, steps)
+    let watched = WatchedWhole {
+        rule: &rule,
+        watch: &watch,
+    };
+    let status = run_whole_rule(alloc, whole_within(limit), &watched, source, sink, steps);
+    TaskEnd::of(status, watch.refusals())
 }
 
 /// Answers lines of cells with the column of them in order, in an input within the limit.
 fn run_cells<S: Source, K: Sink, L: Ledger>(
     alloc: Global,
     limit: &Option<Limit>,
-    watch: &Watch,
     source: &mut S,
     sink: &mut K,
     steps: &mut Steps<L>,
-) -> Status
+) -> TaskEnd
     ensures run { IsWholeRun columns.IsWholeAnswer (whole_limit_of limit.now)
         (outside (S.left source.old) (S.asked source.old) (S.failures source.old)
         (K.written sink.old) (K.failures sink.old) steps.old)
         (outside (S.left source.new) (S.asked source.new) (S.failures source.new)
-        (K.written sink.new) (K.failures sink.new) steps.new) result }
-    ensures memory { result ≡ Status.NoMemory → sink.new ≡ sink.old }
+        (K.written sink.new) (K.failures sink.new) steps.new) result.status }
+    ensures memory { result.status ≡ Status.NoMemory → sink.new ≡ sink.old }
 {
+    let watch = Watch::new();
     let watched = WatchedWhole {
         rule: &ColumnsRule,
-        watch,
+        watch: &watch,
     };
-    run_whole_rule(alloc, whole_within(limit), &watched, source, sink, steps)
+    let status = run_whole_rule(alloc, whole_within(limit), &watched, source, sink, steps);
+    TaskEnd::of(status, watch.refusals())
 }
 
-/// Does a task with an input within the limit. The watch keeps the reports of refused lines. Without a limit an input
-/// has at most 2^62 bytes, and one that is read whole at most 4,294,967,296.
+/// Does a task with an input within the limit. Returns how that ended and what it reports.
+///
+/// Without a limit an input has at most 2^62 bytes, and one that is read whole at most 4,294,967,296.
 pub fn run_task<S: Source, K: Sink, L: Ledger>(
     alloc: Global,
     limit: &Option<Limit>,
     task: &Task<'_>,
-    watch: &Watch,
     source: &mut S,
     sink: &mut K,
     steps: &mut Steps<L>,
-) -> Status
+) -> TaskEnd
     ensures run { TaskRuns limit.now task.now
         (outside (S.left source.old) (S.asked source.old) (S.failures source.old)
         (K.written sink.old) (K.failures sink.old) steps.old)
         (outside (S.left source.new) (S.asked source.new) (S.failures source.new)
+        (K.written sink.new) (K.failures sink.new) steps.new) result.status }
+
+    // Which refused lines, outcomes and errors of the lines of the input it reports.
+    ensures reports { ¬ (result.status ≡ Status.NoMemory) → TaskReports limit.now task.now
+        (outside (S.left source.old) (S.asked source.old) (S.failures source.old)
+        (K.written sink.old) (K.failures sink.old) steps.old)
+        (outside (S.left source.new) (S.asked source.new) (S.failures source.new)
         (K.written sink.new) (K.failures sink.new) steps.new) result }
-    ensures memory { result ≡ Status.NoMemory → sink.new ≡ sink.old }
+    ensures memory { result.status ≡ Status.NoMemory → sink.new ≡ sink.old }
 {
     match task {
-        Task::Lines => run_words(alloc, limit, watch, source, sink, steps),
-        Task::LaidOutLines(layout) => {
-            run_laid_words(alloc, limit, layout, watch, source, sink, steps)
-        }
-        Task::Convert(rule) => run_convert(alloc, limit, rule, watch, source, sink, steps),
-        Task::LaidOut(laid) => run_laid_out(alloc, limit, laid, watch, source, sink, steps),
-        Task::Reported(laid) => run_reported(alloc, limit, laid, watch, source, sink, steps),
-        Task::Errors(lines) => run_errors(alloc, limit, lines, watch, source, sink, steps),
-        Task::Enclose => run_enclosures(alloc, limit, watch, source, sink, steps),
+        Task::Lines => run_words(alloc, limit, source, sink, steps),
+        Task::LaidOutLines(layout) => run_laid_words(alloc, limit, layout, source, sink, steps),
+        Task::Convert(rule) => run_convert(alloc, limit, rule, source, sink, steps),
+        Task::LaidOut(laid) => run_laid_out(alloc, limit, laid, source, sink, steps),
+        Task::Reported(counted) => run_reported(alloc, limit, counted, source, sink, steps),
+        Task::Errors(lines) => run_errors(alloc, limit, lines, source, sink, steps),
+        Task::Enclose => run_enclosures(alloc, limit, source, sink, steps),
         Task::LaidOutEnclose(layout) => {
-            run_laid_enclosures(alloc, limit, layout, watch, source, sink, steps)
+            run_laid_enclosures(alloc, limit, layout, source, sink, steps)
         }
         Task::Ask(form, question) => {
-            run_questions(alloc, limit, *form, *question, watch, source, sink, steps)
+            run_questions(alloc, limit, *form, *question, source, sink, steps)
         }
         Task::LaidOutAsk(form, question, layout) => {
             let rule = BlockRule {
                 form: *form,
                 question: *question,
             };
-            run_laid_questions(alloc, limit, rule, layout, watch, source, sink, steps)
+            run_laid_questions(alloc, limit, rule, layout, source, sink, steps)
         }
-        Task::Least(rule) => run_least(alloc, limit, rule, watch, source, sink, steps),
+        Task::Least(rule) => run_least(alloc, limit, rule, source, sink, steps),
         Task::LaidOutLeast(rule, layout) => {
-            run_laid_least(alloc, limit, rule, layout, watch, source, sink, steps)
+            run_laid_least(alloc, limit, rule, layout, source, sink, steps)
         }
-        Task::Constants(rule) => run_constants(alloc, limit, rule, watch, source, sink, steps),
-        Task::Columns => run_cells(alloc, limit, watch, source, sink, steps),
+        Task::Constants(rule) => run_constants(alloc, limit, rule, source, sink, steps),
+        Task::Columns => run_cells(alloc, limit, source, sink, steps),
     }
 }
 

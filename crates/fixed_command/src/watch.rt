@@ -1,24 +1,20 @@
 //! Wrappers that answer like the rule inside them and remember the refused lines. Contracts say what is kept of a line.
 //! They cannot describe the contents of a `Cell`; tests do.
 
-ghost use Rattle.std.specs.Prelude.{◌≡◌, ◌==◌, ◌+◌, ◌*◌, ◌^◌, ◌<◌, ◌≤◌, List, None, ℕ, length, take};
+ghost use Rattle.std.specs.Prelude.{◌≡◌, ◌==◌, ◌^◌, ◌<◌, List, None, ℕ, length, take};
 ghost use Rattle.fixed_command.specs.Outcome.{one_more};
 ghost use Rattle.fixed_command.specs.Products.{IsProduct};
 ghost use Rattle.fixed_command.specs.Watched.{first_refused, kept_bytes, line_at, refusal_text};
-ghost use Rattle.fixed_report.specs.Report.{add_extra, add_per_byte};
 ghost use Rattle.fixed_respell.specs.Language.{fault_answer};
 
 use crate::blocks::first_bytes;
-use crate::convert::{ConvertRule, without_return};
-use crate::error_lines::ErrorLines;
-use crate::layout::LaidOutRule;
+use crate::convert::without_return;
 use crate::line_blocks::BlockRule;
 use crate::named_line::{line_and_message, line_at};
-use crate::outcome::{Outcome, Tally, has_error, one_more, outcome_of};
+use crate::outcome::one_more;
 use fixed_enclose::append_answer as append_enclosure;
-use fixed_report::ErrorReport;
 use fixed_respell::append_answer;
-use fixed_show::{Form, MAX_ERROR, MAX_OBJECT};
+use fixed_show::{Form, MAX_OBJECT};
 use fixed_steps::Steps;
 use line_engine::{LineRule, MAX_ANSWER, NoMemory, Output, WholeAnswer, WholeRule};
 use memchr::memrchr;
@@ -132,14 +128,11 @@ impl Refusals {
     }
 }
 
-/// What is known about the lines of an input: their count, the refused lines, and, if requested, the outcomes of their
-/// numerals and the greatest error.
+/// The refused lines of an input, kept by a rule that is lent.
 #[derive(Drop)]
 pub struct Watch {
     lines: Cell<u64>,
     refusals: Cell<Refusals>,
-    tally: Cell<Tally>,
-    errors: Cell<Option<ErrorReport>>,
 }
 
 impl Watch {
@@ -148,39 +141,12 @@ impl Watch {
         Watch {
             lines: Cell::new(0),
             refusals: Cell::new(Refusals::new()),
-            tally: Cell::new(Tally::new()),
-            errors: Cell::new(None),
         }
-    }
-
-    /// Returns a watch that has seen no line and keeps the greatest error.
-    pub fn of_errors(errors: ErrorReport) -> Watch {
-        let watch = Watch::new();
-        watch.errors.set(Some(errors));
-        watch
     }
 
     /// Takes the refused lines.
     pub fn refusals(&self) -> Refusals {
         self.refusals.replace(Refusals::new())
-    }
-
-    /// Returns the outcomes of the numerals.
-    pub fn tally(&self) -> Tally {
-        self.tally.get()
-    }
-
-    /// Takes what is kept of the greatest error, if anything.
-    pub fn errors(&self) -> Option<ErrorReport> {
-        self.errors.replace(None)
-    }
-
-    /// Takes what another watch knows. The other loses its refused lines and greatest error.
-    pub fn take(&self, other: &Watch) {
-        self.lines.set(other.lines.get());
-        self.refusals.set(other.refusals());
-        self.tally.set(other.tally());
-        self.errors.set(other.errors());
     }
 
     /// Counts a line before it is answered. Returns the index at which its answer begins.
@@ -190,7 +156,7 @@ impl Watch {
         out.len()
     }
 
-    /// Counts a line that is passed over.
+    /// Counts a line.
     pub(crate) fn pass(&self) {
         self.lines.set(self.lines.get().wrapping_add(1));
     }
@@ -209,23 +175,6 @@ impl Watch {
         let mut refusals = self.refusals();
         refusals.note(self.lines.get(), line, answer);
         self.refusals.set(refusals);
-    }
-
-    /// Notes the outcome of the numeral of the last counted line.
-    fn note(&self, outcome: Outcome) {
-        let mut tally = self.tally.get();
-        tally.note(self.lines.get(), outcome);
-        self.tally.set(tally);
-    }
-
-    /// Notes that the numeral of the last counted line has an error.
-    fn note_error<L: Ledger>(&self, numeral: &[u8], steps: &mut Steps<L>)
-        ensures cost { steps.new ≤ steps.old + add_per_byte * length numeral.now + add_extra }
-    {
-        if let Some(mut errors) = self.errors() {
-            errors.add(numeral, self.lines.get(), steps);
-            self.errors.set(Some(errors));
-        }
     }
 
     /// Notes that an input is refused with this answer.
@@ -270,63 +219,6 @@ pub struct WatchedLines {
 pub struct WatchedEnclosures {
     /// What is known about the lines.
     pub watch: Watch,
-}
-
-/// The rule of a conversion, with a watch over its refusals.
-#[derive(Drop)]
-pub struct WatchedNumerals {
-    /// The rule.
-    pub rule: ConvertRule,
-    /// What is known about the lines.
-    pub watch: Watch,
-}
-
-/// The rule of a conversion of lines as people write them, with a watch over its refusals.
-#[derive(Drop)]
-pub struct WatchedLaidOut {
-    /// The rule.
-    pub laid: LaidOutRule,
-    /// What is known about the lines.
-    pub watch: Watch,
-}
-
-/// The rule of errors of numerals, with a watch over its refusals.
-#[derive(Drop)]
-pub struct WatchedErrors {
-    /// The rule.
-    pub lines: ErrorLines,
-    /// What is known about the lines.
-    pub watch: Watch,
-}
-
-/// The rule of a report, with a watch also over the outcomes and the greatest error.
-#[derive(Drop)]
-pub struct ReportedLaidOut {
-    /// The rule.
-    pub laid: LaidOutRule,
-    /// What is known about the lines.
-    pub watch: Watch,
-}
-
-impl ReportedLaidOut {
-    /// Notes the outcome of the numeral of an answered line. `is_fault`: the answer was a fault.
-    fn note<L: Ledger>(&self, line: &[u8], is_fault: bool, steps: &mut Steps<L>)
-        ensures cost { steps.new ≤ steps.old + (16 * length line.now + 704)
-            + (add_per_byte * length line.now + add_extra) }
-    {
-        let layout = &self.laid.layout;
-        if is_fault {
-            self.watch.note(Outcome::Refused);
-        } else if !layout.is_skipped(line) {
-            let settings = self.laid.rule.settings();
-            let numeral = layout.numeral_of(line);
-            let outcome = outcome_of(settings, numeral, steps);
-            self.watch.note(outcome);
-            if has_error(settings.spelling, outcome) {
-                self.watch.note_error(numeral, steps);
-            }
-        }
-    }
 }
 
 /// The rule of questions about lines, with a watch over its refusals.
@@ -425,151 +317,6 @@ impl<L: Ledger> LineRule<L> for WatchedLines {
     ghost one_law = { λ watched. answer_one };
 
     ghost kept_law = { λ watched. long_by_its_prefix };
-}
-
-impl<L: Ledger> LineRule<L> for WatchedNumerals {
-    ghost use Rattle.std.proofs.Common.{lit<};
-    ghost use Rattle.fixed_command.specs.Convert.{IsLineReply};
-    ghost use Rattle.fixed_command.specs.Lemmas.ReplyLemmas.{line_reply_one, long_by_its_prefix};
-
-    const PER_BYTE: u64 = 8;
-
-    const EXTRA: u64 = 624;
-
-    const MAX_ANSWER: usize = MAX_ANSWER;
-
-    ghost PER_BYTE = { 8 };
-
-    ghost EXTRA = { 624 };
-
-    ghost MAX_ANSWER = { 192 };
-
-    ghost Answers = { λ watched. IsLineReply watched.rule };
-
-    fn answer(&self, line: &[u8], out: &mut Output, steps: &mut Steps<L>) -> bool {
-        let start = self.watch.begin(out);
-        let is_fault = self.rule.answer(line, out, steps);
-        self.watch.end(without_return(line), out, start, is_fault);
-        is_fault
-    }
-
-    ghost room_law = { lit< tt };
-
-    ghost one_law = { λ watched. line_reply_one watched.rule };
-
-    ghost kept_law = { λ watched. long_by_its_prefix watched.rule };
-}
-
-impl<L: Ledger> LineRule<L> for WatchedLaidOut {
-    ghost use Rattle.std.proofs.Common.{lit<};
-    ghost use Rattle.fixed_command.specs.Convert.{IsReply};
-    ghost use Rattle.fixed_command.specs.Layout.{IsLaidOut};
-    ghost use Rattle.fixed_command.specs.Lemmas.LayoutLemmas.{laid_out_one, long_by_its_prefix};
-    ghost use Rattle.fixed_command.specs.Lemmas.ReplyLemmas.{reply_one};
-
-    const PER_BYTE: u64 = 8;
-
-    const EXTRA: u64 = 624;
-
-    const MAX_ANSWER: usize = MAX_ANSWER;
-
-    ghost PER_BYTE = { 8 };
-
-    ghost EXTRA = { 624 };
-
-    ghost MAX_ANSWER = { 192 };
-
-    ghost Answers = { λ watched. IsLaidOut watched.laid.layout (IsReply watched.laid.rule) };
-
-    fn answer(&self, line: &[u8], out: &mut Output, steps: &mut Steps<L>) -> bool {
-        let start = self.watch.begin(out);
-        let is_fault = self.laid.answer(line, out, steps);
-        self.watch.end(without_return(line), out, start, is_fault);
-        is_fault
-    }
-
-    ghost room_law = { lit< tt };
-
-    ghost one_law = { λ watched. laid_out_one watched.laid.layout (IsReply watched.laid.rule)
-        (reply_one watched.laid.rule) };
-
-    ghost kept_law = { λ watched. long_by_its_prefix watched.laid.layout (IsReply watched.laid.rule)
-        (reply_one watched.laid.rule) };
-}
-
-impl<L: Ledger> LineRule<L> for WatchedErrors {
-    ghost use Rattle.std.proofs.Common.{lit<};
-    ghost use Rattle.fixed_command.specs.Errors.{IsErrorLine, IsErrorReply};
-    ghost use Rattle.fixed_command.specs.Lemmas.ErrorLemmas.{error_reply_one};
-    ghost use Rattle.fixed_command.specs.Lemmas.LayoutLemmas.{laid_out_one, long_by_its_prefix};
-
-    const PER_BYTE: u64 = 11;
-
-    const EXTRA: u64 = 1565;
-
-    const MAX_ANSWER: usize = MAX_ERROR;
-
-    ghost PER_BYTE = { 11 };
-
-    ghost EXTRA = { 1565 };
-
-    ghost MAX_ANSWER = { 1380 };
-
-    ghost Answers = { λ watched. IsErrorLine watched.lines };
-
-    fn answer(&self, line: &[u8], out: &mut Output, steps: &mut Steps<L>) -> bool {
-        let start = self.watch.begin(out);
-        let is_fault = self.lines.answer(line, out, steps);
-        self.watch.end(without_return(line), out, start, is_fault);
-        is_fault
-    }
-
-    ghost room_law = { lit< tt };
-
-    ghost one_law = { λ watched. laid_out_one watched.lines.layout (IsErrorReply watched.lines.settings)
-        (error_reply_one watched.lines.settings) };
-
-    ghost kept_law = { λ watched. long_by_its_prefix watched.lines.layout (IsErrorReply watched.lines.settings)
-        (error_reply_one watched.lines.settings) };
-}
-
-impl<L: Ledger> LineRule<L> for ReportedLaidOut {
-    ghost use Rattle.std.proofs.Common.{lit<};
-    ghost use Rattle.fixed_command.specs.Convert.{IsReply};
-    ghost use Rattle.fixed_command.specs.Layout.{IsLaidOut};
-    ghost use Rattle.fixed_command.specs.Lemmas.LayoutLemmas.{laid_out_one, long_by_its_prefix};
-    ghost use Rattle.fixed_command.specs.Lemmas.ReplyLemmas.{reply_one};
-    ghost use Rattle.fixed_command.specs.Runs.{reported_extra, reported_per_byte};
-
-    const PER_BYTE: u64 = 52;
-
-    const EXTRA: u64 = 20_973_788;
-
-    const MAX_ANSWER: usize = MAX_ANSWER;
-
-    ghost PER_BYTE = { reported_per_byte };
-
-    ghost EXTRA = { reported_extra };
-
-    ghost MAX_ANSWER = { 192 };
-
-    ghost Answers = { λ reported. IsLaidOut reported.laid.layout (IsReply reported.laid.rule) };
-
-    fn answer(&self, line: &[u8], out: &mut Output, steps: &mut Steps<L>) -> bool {
-        let start = self.watch.begin(out);
-        let is_fault = self.laid.answer(line, out, steps);
-        self.watch.end(without_return(line), out, start, is_fault);
-        self.note(line, is_fault, steps);
-        is_fault
-    }
-
-    ghost room_law = { lit< tt };
-
-    ghost one_law = { λ reported. laid_out_one reported.laid.layout (IsReply reported.laid.rule)
-        (reply_one reported.laid.rule) };
-
-    ghost kept_law = { λ reported. long_by_its_prefix reported.laid.layout (IsReply reported.laid.rule)
-        (reply_one reported.laid.rule) };
 }
 
 impl<L: Ledger> LineRule<L> for WatchedEnclosures {

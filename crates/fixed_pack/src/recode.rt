@@ -5,7 +5,7 @@ ghost use Rattle.fixed_pack.specs.Recoded.{AreFront, IsRecoded};
 
 use fixed_steps::Steps;
 use line_engine::Output;
-use run_engine::{Refusals, Watch};
+use run_engine::Refusals;
 use std::sync::ledger::Ledger;
 
 /// The most bytes that a word turns into.
@@ -107,6 +107,8 @@ impl<C: Copy, L: Ledger> WordWatch<C, L> for Refusals<C> {
 
     #[inline(always)]
     fn see(&mut self, number: u64, word: &[u8], cause: &Option<C>, _steps: &mut Steps<L>) {
-        Watch::see(self, number, word, cause);
+        if let Some(cause) = cause {
+            self.refuse(number, word, *cause);
+        }
     }
 }

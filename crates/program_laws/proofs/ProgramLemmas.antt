@@ -108,7 +108,7 @@ module _ (report : ReportIsTheOne) where
     task_runs_one limit (LaidOutLines layout) = by_line cut (AnswersLaidOut layout respell.IsAnswer) (laid_answer_one layout respell.IsAnswer respell_one) (limit_of limit) 8 624 (TaskRuns limit (LaidOutLines layout)) (λ before after s x. x)
     task_runs_one limit (Convert settings) = by_line cut (IsLineReply settings) (line_reply_one settings) (limit_of limit) 8 624 (TaskRuns limit (Convert settings)) (λ before after s x. x)
     task_runs_one limit (LaidOut laid) = by_line cut (IsLaidOut laid.layout (IsReply laid.rule)) (laid_out_one laid.layout (IsReply laid.rule) (reply_one laid.rule)) (limit_of limit) 8 624 (TaskRuns limit (LaidOut laid)) (λ before after s x. x)
-    task_runs_one limit (Reported laid) = by_line cut (IsLaidOut laid.layout (IsReply laid.rule)) (laid_out_one laid.layout (IsReply laid.rule) (reply_one laid.rule)) (limit_of limit) reported_per_byte reported_extra (TaskRuns limit (Reported laid)) (λ before after s x. x)
+    task_runs_one limit (Reported counted) = by_line cut (IsLaidOut counted.laid.layout (IsReply counted.laid.rule)) (laid_out_one counted.laid.layout (IsReply counted.laid.rule) (reply_one counted.laid.rule)) (limit_of limit) reported_per_byte reported_extra (TaskRuns limit (Reported counted)) (λ before after s x. x)
     task_runs_one limit (Ask form question) = by_line cut (IsLineBlock form question) (line_block_one form question) (limit_of limit) 26 3307 (TaskRuns limit (Ask form question)) (λ before after s x. x)
     task_runs_one limit (LaidOutAsk form question layout) = by_line cut (AnswersLaidOut layout (IsLineBlock form question)) (laid_answer_one layout (IsLineBlock form question) (line_block_one form question)) (limit_of limit) 26 3307 (TaskRuns limit (LaidOutAsk form question layout)) (λ before after s x. x)
     task_runs_one limit (Errors lines) = by_line cut (IsErrorLine lines) (laid_out_one lines.layout (IsErrorReply lines.settings) (error_reply_one lines.settings)) (limit_of limit) 11 1565 (TaskRuns limit (Errors lines)) (λ before after s x. x)

@@ -2,8 +2,7 @@
 
 use fixed_bits::{Format, Policy, ReadMode};
 use fixed_command::{
-    ConvertRule, Form, Print, Question, Settings, Spelling, Task, Watch, greater_end, run_blocks,
-    run_task,
+    ConvertRule, Form, Print, Question, Settings, Spelling, Task, greater_end, run_blocks, run_task,
 };
 use fixed_constants::FormRule;
 use fixed_numeral::Radix;
@@ -18,7 +17,6 @@ use std::test::Fail;
 #[derive(Drop)]
 struct Case<'a> {
     task: Task<'a>,
-    watch: Watch,
     run: MemoryRun,
 }
 
@@ -31,7 +29,7 @@ impl<'a> MemoryProgram for Case<'a> {
         sink: &mut MemorySink,
         steps: &mut Steps<L>,
     ) -> Status {
-        run_task(alloc, &None, &self.task, &self.watch, source, sink, steps)
+        run_task(alloc, &None, &self.task, source, sink, steps).status
     }
 }
 
@@ -53,11 +51,7 @@ fn failing<'a>(
         written,
         status,
     };
-    Case {
-        task,
-        watch: Watch::new(),
-        run,
-    }
+    Case { task, run }
 }
 
 /// Stops at the first run that writes something else, or ends otherwise.

@@ -4,8 +4,9 @@
 use crate::columns::first_of;
 use fixed_steps::Steps;
 use line_engine::{MemoryProgram, MemoryRun, MemorySink, MemorySource, NEVER, Output, Status};
-use run_engine::{Cause, LineRule, Refusals, Rule, Watch, run_lines};
+use run_engine::{Cause, LineRule, Refusals, Rule, push_error, run_lines, run_watched};
 use std::alloc::Global;
+use std::cell::Cell;
 use std::sync::ledger::Ledger;
 use std::test::Fail;
 
@@ -28,8 +29,11 @@ impl Cause for NotSo {
 struct NoX;
 
 impl<L: Ledger> Rule<L> for NoX {
-    ghost use Rattle.std.proofs.Common.{◌≡◌, ◌∙◌, get_or, lit<, sym};
+    ghost use Rattle.std.proofs.Common.{◌≡◌, ◌∙◌, codes, get_or, lit<, sym};
+    ghost use Rattle.run_engine.specs.Reply.{error_text};
     ghost use Rattle.run_tests.specs.Replies.{line_reply};
+
+    type Note = ();
 
     type Cause = NotSo;
 
@@ -47,12 +51,20 @@ impl<L: Ledger> Rule<L> for NoX {
 
     ghost Answers = { λ rule line reply. reply ≡ line_reply (get_or line 0 0) };
 
-    fn answer(&self, line: &[u8], out: &mut Output, _steps: &mut Steps<L>) -> Option<NotSo> {
+    ghost Notes = { λ rule line note. Unit {0} };
+
+    ghost refusal = { λ rule line cause. error_text (codes "not so") };
+
+    fn answer(&self, line: &[u8], out: &mut Output, _steps: &mut Steps<L>) -> Result<(), NotSo> {
         if first_of(line) == b'x' {
-            return Some(NotSo);
+            return Err(NotSo);
         }
         out.push_bytes(b"yes");
-        None
+        Ok(())
+    }
+
+    fn push_refusal(&self, _line: &[u8], cause: &NotSo, out: &mut Output) {
+        push_error(cause, out);
     }
 
     ghost room_law = { lit< tt };
@@ -137,15 +149,63 @@ fn lines_are_answered_or_refused_up_to_the_call_that_fails(rt: HostRuntime) -> R
     Ok(())
 }
 
+/// The limit, which read and which write fails, how many lines the observer was told are refused, and how the run ends.
+type Seen = (u64, u64, u64, u64, Status);
+
+/// A run of lines that is observed. `MemoryProgram` lends it, so its end is kept in a cell.
+#[derive(Drop)]
+struct Watched {
+    limit: u64,
+    end: Cell<Refusals<NotSo>>,
+}
+
+impl MemoryProgram for Watched {
+    fn run<L: Ledger>(
+        &self,
+        alloc: Global,
+        _args: &[String],
+        source: &mut MemorySource,
+        sink: &mut MemorySink,
+        steps: &mut Steps<L>,
+    ) -> Status {
+        let limit = self.limit.min(1000);
+        let end = run_watched(alloc, limit, &NoX, Refusals::new(), source, sink, steps);
+        self.end.set(end.watch);
+        end.status
+    }
+}
+
 #[test]
-fn first_refused_line_is_kept(rt: HostRuntime) -> Result<(), Fail> {
-    let mut refusals = Refusals::new();
-    refusals.see(1, b"ab", &None);
-    refusals.see(2, b"xyz", &Some(NotSo));
-    refusals.see(4, b"x", &Some(NotSo));
-    assert!(rt; refusals.count == 2);
-    let first = refusals.first.ok_or("none")?;
-    assert!(rt; first.number == 2);
-    assert!(rt; first.line.as_bytes() == b"xyz".as_slice());
+fn an_observer_is_told_of_each_refused_line(rt: HostRuntime) -> Result<(), Fail> {
+    let rows: [Seen; 5] = [
+        (1000, NEVER, NEVER, 2, Status::Faults),
+        (7, NEVER, NEVER, 1, Status::TooLong),
+        (2, NEVER, NEVER, 0, Status::TooLong),
+        (1000, 2, NEVER, 1, Status::ReadFault),
+        (1000, NEVER, 2, 1, Status::WriteFault),
+    ];
+    for (limit, failing_read, failing_write, count, status) in &rows {
+        let case = MemoryRun {
+            args: &[],
+            input: LINES,
+            most: 4,
+            failing_read: *failing_read,
+            failing_write: *failing_write,
+            written: "",
+            status: *status,
+        };
+        let program = Watched {
+            limit: *limit,
+            end: Cell::new(Refusals::new()),
+        };
+        let (ended, _) = case.of(rt.alloc(), &program, LINES.as_bytes().to_vec(rt.alloc())?)?;
+        let refusals = program.end.replace(Refusals::new());
+        assert!(rt; ended == *status, "the status at {limit}");
+        assert!(rt; refusals.count == *count, "the count at {limit}");
+        if let Some(first) = refusals.first {
+            assert!(rt; first.number == 2);
+            assert!(rt; first.line.as_bytes() == b"xyz".as_slice());
+        }
+    }
     Ok(())
 }

@@ -500,7 +500,7 @@ pub fn run_on<R: Read + Drop, L: Ledger>(
     let end = run_amounts(rt.alloc(), limit, lines, &mut source, &mut sink, steps);
     // After a failed write, not all counted answers were written.
     if !is_last(end.status) {
-        report_refused(rt, lines, file, &end.refusals, steps);
+        report_refused(rt, lines, file, &end.watch, steps);
     }
     report_end(rt, file, end.status, sink.lines(), &failure);
     end.status

@@ -17,7 +17,7 @@ use crate::options::{
 use crate::settings::{conversion, note_target_mode};
 use command_line::given::{Asked, Given, Refusal};
 use command_line::page::{Page, Row};
-use fixed_command::{ConvertRule, ErrorLines, LaidOutRule, Measure, Offers, Task};
+use fixed_command::{ConvertRule, CountedRule, ErrorLines, LaidOutRule, Measure, Offers, Task};
 use fixed_steps::Steps;
 use line_engine::Status;
 use std::sync::ledger::Ledger;
@@ -86,7 +86,7 @@ fn task_of<'a>(given: &Given<'_, 'a>, rule: ConvertRule) -> Asked<'a, Task<'a>> 
         Ok(layout) => {
             let laid = LaidOutRule { rule, layout };
             Ok(if has_report {
-                Task::Reported(laid)
+                Task::Reported(CountedRule { laid })
             } else {
                 Task::LaidOut(laid)
             })

@@ -41,3 +41,21 @@ returns-in-LaidOutLines-clause-run g c = rw c.in-LaidOutLines.is c.run_laid_word
 
 pub returns-in-LaidOutEnclose-clause-run : goal.returns-in-LaidOutEnclose-clause-run
 returns-in-LaidOutEnclose-clause-run g c = rw c.in-LaidOutEnclose.is c.run_laid_enclosures.ensures.run
+
+pub returns-in-Lines-clause-reports : goal.returns-in-Lines-clause-reports
+returns-in-Lines-clause-reports g c = rw c.in-Lines.is c.run_words.ensures.reports
+
+pub returns-in-Convert-clause-reports : goal.returns-in-Convert-clause-reports
+returns-in-Convert-clause-reports g c = rw c.in-Convert.is c.run_convert.ensures.reports
+
+pub returns-in-LaidOut-clause-reports : goal.returns-in-LaidOut-clause-reports
+returns-in-LaidOut-clause-reports g c = rw c.in-LaidOut.is c.run_laid_out.ensures.reports
+
+pub returns-in-Reported-clause-reports : goal.returns-in-Reported-clause-reports
+returns-in-Reported-clause-reports g c = rw c.in-Reported.is c.run_reported.ensures.reports
+
+pub returns-in-Errors-clause-reports : goal.returns-in-Errors-clause-reports
+returns-in-Errors-clause-reports g c = rw c.in-Errors.is c.run_errors.ensures.reports
+
+pub returns-in-Enclose-clause-reports : goal.returns-in-Enclose-clause-reports
+returns-in-Enclose-clause-reports g c = rw c.in-Enclose.is c.run_enclosures.ensures.reports
