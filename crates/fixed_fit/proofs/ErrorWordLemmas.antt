@@ -1,11 +1,9 @@
 -- The size of the greatest error, as it is written.
-use Rattle.std.proofs.Common.{◌≡◌, ℕ, suc, ◌+◌, ◌≤◌, ◌↔◌, ◌==◌, Bool, true, false, IsTrue, if◌then◌else◌, List, [], ◌∷◌, ◌++◌, length, append_assoc, refl, sym, ap, ◌∙◌, subst, arith, inl, inr, ℤ}
+use Rattle.std.proofs.Common.{◌≡◌, ℕ, suc, ◌+◌, ◌≤◌, ◌==◌, Bool, true, false, if◌then◌else◌, List, [], ◌∷◌, ◌++◌, length, append_assoc, refl, sym, ap, ◌∙◌, subst, arith, inl, inr, ℤ}
 use Rattle.std.specs.Prelude.{codes}
 use Rattle.fixed_bits.specs.Formats.{FormatParts}
-use Rattle.fixed_bits.specs.Ranges.{IsInRange, IsOutOfRange}
 use Rattle.fixed_bits.specs.declared.format.Policy.TheVariants.{Checked}
 use Rattle.fixed_bits.specs.declared.mode.ReadMode.TheVariants.{NearestEven}
-use Rattle.fixed_bits.proofs.Public.{range_decided}
 use Rattle.fixed_bits.specs.declared.mode.ReadMode.{ReadMode}
 use Rattle.fixed_error.specs.Errors.{IsGreatestAt}
 use Rattle.fixed_error.specs.Greatest.{Entry, IsFirstGreatest, IsKept}
@@ -18,9 +16,11 @@ use Rattle.fixed_numeral.proofs.Public.{parts_unique}
 use Rattle.fixed_read.specs.Reading.{IsReadNumber}
 use Rattle.fixed_read.proofs.Public.{read_unique}
 use Rattle.fixed_show.specs.Blocks.{Appends}
-use Rattle.fixed_show.specs.ErrorText.{IsErrorText}
+use Rattle.fixed_show.specs.ShortError.{IsErrorText}
 use Rattle.fixed_show.specs.ShowBlock.{HasNoBits, IsShownError}
-use Rattle.fixed_show.proofs.BoundedLemmas.{error_text_one}
+use Rattle.fixed_show.specs.declared.form.Form.TheVariants.{Members}
+use Rattle.fixed_show.specs.declared.measure.Measure.TheVariants.{Value}
+use Rattle.fixed_show.proofs.Public.{error_text_one}
 use Rattle.fixed_fit.specs.ErrorWord.{IsErrorWord, IsGreatestText, IsSizeText, entries_from, half_ulp, without_minus}
 use Rattle.fixed_fit.specs.Fitting.{AllFit, Fits}
 use Rattle.fixed_fit.proofs.FittingLemmas.{not_both}
@@ -52,21 +52,14 @@ size_appended r f numeral start signed text before after true empty fits shown n
     }
 
 -- ---- the text of an error's size is unique
-not_out : (s : Bool) (n : ℕ) (v : ℤ) (o : Bool) → IsInRange s n v → (IsTrue o ↔ IsOutOfRange s n v) → o ≡ false
-not_out s n v false inside flag = refl
-not_out s n v true inside flag = absurd ((range_decided s n v).1 (flag.0 refl) inside)
-
 shown_one : (r : Radix) (f : FormatParts) (line a b : List ℕ) → IsShownError NearestEven r line f Checked a → IsShownError NearestEven r line f Checked b → a ≡ b
 shown_one r f line a b x y =
     let parts : x.read.parts ≡ y.read.parts = parts_unique r line x.read.parts y.read.parts x.read.numeral.beginning y.read.numeral.beginning in
     let number : x.read.number ≡ y.read.number = read_unique NearestEven r y.read.parts f.frac x.read.number y.read.number (subst (λ (q : Parts). IsReadNumber NearestEven r q f.frac x.read.number) parts x.read.read) y.read.read in
     let bits : x.bits ≡ y.bits = x.read.image.same ∙ number ∙ sym y.read.image.same in
-    let one : x.overflowed ≡ false = not_out f.signed f.width x.read.number x.overflowed x.read.image.in_range x.read.flag in
-    let other : y.overflowed ≡ false = not_out f.signed f.width y.read.number y.overflowed y.read.image.in_range y.read.flag in
-    let here : IsErrorText r y.read.parts f.frac x.bits x.overflowed a = subst (λ (q : Parts). IsErrorText r q f.frac x.bits x.overflowed a) parts x.is_error in
-    let there : IsErrorText r y.read.parts f.frac y.bits x.overflowed a = subst (λ (v : ℤ). IsErrorText r y.read.parts f.frac v x.overflowed a) bits here in
-    let moved : IsErrorText r y.read.parts f.frac y.bits y.overflowed a = subst (λ (o : Bool). IsErrorText r y.read.parts f.frac y.bits o a) (one ∙ sym other) there in
-    error_text_one r y.read.parts f.frac y.bits y.overflowed a b moved y.is_error
+    let here : IsErrorText Members Value r y.read.parts f.frac x.bits a = subst (λ (q : Parts). IsErrorText Members Value r q f.frac x.bits a) parts x.is_error in
+    let moved : IsErrorText Members Value r y.read.parts f.frac y.bits a = subst (λ (v : ℤ). IsErrorText Members Value r y.read.parts f.frac v a) bits here in
+    error_text_one Members Value r y.read.parts f.frac y.bits a b moved y.is_error
 
 size_one : (r : Radix) (f : FormatParts) (numeral a b : List ℕ) → IsSizeText r f numeral a → IsSizeText r f numeral b → a ≡ b
 size_one r f numeral a b x y = x.text_is ∙ ap without_minus (shown_one r f numeral x.signed y.signed x.shown y.shown) ∙ sym y.text_is

@@ -1,5 +1,5 @@
 -- The error of a range is 1 / 2^(f + 1).
-use Rattle.std.proofs.Common.{◌≡◌, ℕ, suc, ◌+◌, ◌-◌, ◌*◌, ◌^◌, ◌<◌, ◌≤◌, Bool, true, false, List, refl, sym, ap, ◌∙◌, subst, arith, inl, inr, pow_pos, ℤ, pos, negsuc, ◌-ℤ◌, ◌*ℤ◌}
+use Rattle.std.proofs.Common.{◌≡◌, ℕ, suc, ◌+◌, ◌-◌, ◌*◌, ◌^◌, ◌<◌, ◌≤◌, true, false, List, refl, sym, ap, ◌∙◌, subst, arith, inl, inr, pow_pos, ℤ, pos, negsuc, ◌-ℤ◌, ◌*ℤ◌}
 use Rattle.std.proofs.Math.Nat.{pow-le-pow_right}
 use Rattle.std.proofs.lemmas.Int.{ints}
 use Rattle.std.proofs.lemmas.Nat.{mul-pow, pow-add}
@@ -10,7 +10,10 @@ use Rattle.fixed_numeral.specs.Value.{Fraction}
 use Rattle.fixed_numeral.specs.declared.radix.Radix.TheVariants.{Bin}
 use Rattle.fixed_read.proofs.Public.{read_unique}
 use Rattle.fixed_read.specs.Reading.{IsReadNumber}
-use Rattle.fixed_show.specs.ErrorText.{IsBrief, IsErrorText, IsExactDecimal, error_den, error_num}
+use Rattle.fixed_show.specs.ErrorText.{IsBrief, IsExactDecimal, error_den, error_num}
+use Rattle.fixed_show.specs.ShortError.{IsErrorText}
+use Rattle.fixed_show.specs.declared.form.Form.TheVariants.{Members}
+use Rattle.fixed_show.specs.declared.measure.Measure.TheVariants.{Value}
 use Rattle.fixed_write.specs.Texts.{decimal_text}
 use Rattle.fixed_fit.specs.ErrorWord.{half_ulp, without_minus}
 use Rattle.fixed_fit.specs.Laws.{RangeErrorIsHalfAnUlp}
@@ -93,9 +96,9 @@ full_half k signed text x text_is =
     let there : IsExactDecimal ((pos 0 *ℤ pos (1 * 2 ^ suc k)) -ℤ pos (1 * suc b.0)) (2 ^ k * (1 * 2 ^ suc k)) signed = subst F (sym b.1) here in
     exact_half b.0 k signed text b.1 (subst (λ (z : ℤ). IsExactDecimal z (2 ^ k * (1 * 2 ^ suc k)) signed) (error_is (1 * 2 ^ suc k) b.0) there) text_is
 
-by_text : (k : ℕ) (o : Bool) (signed text : List ℕ) → suc k ≤ 1100 → IsErrorText Bin (parts k) k (pos 0) o signed → text ≡ without_minus signed → IsExactDecimal (pos 1) (2 ^ (k + 1)) text
-by_text k o signed text few (inl full) is = full_half k signed text full.exact is
-by_text k o signed text few (inr bounded) is = absurd (bounded.long (subst (λ (m : Fraction). IsBrief m.num m.den) (sym (half k)) (half_brief k few)))
+by_text : (k : ℕ) (signed text : List ℕ) → suc k ≤ 1100 → IsErrorText Members Value Bin (parts k) k (pos 0) signed → text ≡ without_minus signed → IsExactDecimal (pos 1) (2 ^ (k + 1)) text
+by_text k signed text few (inl full) is = full_half k signed text full.1 is
+by_text k signed text few (inr long) is = absurd (long.0 (subst (λ (m : Fraction). IsBrief m.num m.den) (sym (half k)) (half_brief k few)))
 
 pub range_error_is_half_an_ulp : RangeErrorIsHalfAnUlp
 range_error_is_half_an_ulp r f lines text few h =
@@ -105,6 +108,6 @@ range_error_is_half_an_ulp r f lines text few h =
     let same : read.parts ≡ parts k = parts_unique Bin (half_ulp k) read.parts (parts k) read.numeral.beginning (has_parts k).beginning in
     let zero_is : read.number ≡ pos 0 = read_unique NearestEven Bin (parts k) k read.number (pos 0) (subst (λ (q : Parts). IsReadNumber NearestEven Bin q k read.number) same read.read) (read_zero k) in
     let bits : shown.bits ≡ pos 0 = read.image.same ∙ zero_is in
-    let one : IsErrorText Bin (parts k) k shown.bits shown.overflowed h.signed = subst (λ (q : Parts). IsErrorText Bin q k shown.bits shown.overflowed h.signed) same shown.is_error in
-    let two : IsErrorText Bin (parts k) k (pos 0) shown.overflowed h.signed = subst (λ (v : ℤ). IsErrorText Bin (parts k) k v shown.overflowed h.signed) bits one in
-    by_text k shown.overflowed h.signed text (omega (arith, few)) two h.text_is
+    let one : IsErrorText Members Value Bin (parts k) k shown.bits h.signed = subst (λ (q : Parts). IsErrorText Members Value Bin q k shown.bits h.signed) same shown.is_error in
+    let two : IsErrorText Members Value Bin (parts k) k (pos 0) h.signed = subst (λ (v : ℤ). IsErrorText Members Value Bin (parts k) k v h.signed) bits one in
+    by_text k h.signed text (omega (arith, few)) two h.text_is

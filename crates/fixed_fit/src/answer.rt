@@ -1,7 +1,7 @@
 //! The answer to a list.
 
 ghost use Rattle.std.specs.Prelude.{◌≡◌, ◌<◌, ◌≤◌, ◌+◌, ◌++◌, ◌∷◌, [], List};
-ghost use Rattle.std.specs.Prelude.{ℕ, OnErr, OnOk, length, true, false, codes, decimal};
+ghost use Rattle.std.specs.Prelude.{ℕ, OnErr, OnOk, length, decimal};
 ghost use Rattle.fixed_least.specs.Least.{fault_line};
 ghost use Rattle.line_engine.specs.Lines.{lines};
 ghost use Rattle.run_engine.specs.Seen.{Breaks, Puts};

@@ -1,7 +1,6 @@
 //! The text of a list's greatest error in the chosen format.
 
 ghost use Rattle.std.specs.Prelude.{◌≡◌, ◌≤◌, ◌<◌, ◌+◌, ◌++◌, length};
-ghost use Rattle.fixed_error.specs.Greatest.{Entry};
 ghost use Rattle.fixed_show.specs.Blocks.{Appends};
 ghost use Rattle.fixed_fit.specs.ErrorWord.{IsSizeText, half_ulp, without_minus};
 ghost use Rattle.fixed_fit.specs.Fitting.{Fits};

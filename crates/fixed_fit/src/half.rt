@@ -1,9 +1,7 @@
 //! Compares half an ulp, the error of a range, with a bound.
 
 ghost use Rattle.std.specs.Prelude.{◌≡◌, ◌≤◌, ◌<◌, ◌↔◌, [], IsTrue, true, false, ℕ};
-ghost use Rattle.fixed_bits.specs.Formats.{IsFormat};
 ghost use Rattle.fixed_bits.specs.declared.mode.ReadMode.TheVariants.{Ceil, Floor};
-ghost use Rattle.fixed_error.specs.ErrorSize.{IsReadWithin};
 ghost use Rattle.fixed_numeral.specs.Numeral.{IsNumeral};
 ghost use Rattle.fixed_fit.specs.Within.{IsErrorWithin, IsHalfWithin};
 

@@ -3,8 +3,7 @@
 //! A numeral that is in range with a fraction length is in range with each shorter one. So the lengths that are left
 //! are those below a count, and a numeral only lowers the count.
 
-ghost use Rattle.std.specs.Prelude.{◌≡◌, ◌≤◌, ◌<◌, ◌+◌, ◌↔◌, IsTrue, true, false, ℕ};
-ghost use Rattle.fixed_bits.specs.Formats.{IsFormat};
+ghost use Rattle.std.specs.Prelude.{◌≡◌, ◌≤◌, ◌<◌, ◌+◌, ◌↔◌, true, false, ℕ};
 ghost use Rattle.fixed_numeral.specs.Numeral.{IsNumeral};
 ghost use Rattle.fixed_fit.specs.Fitting.{Exceeds, Fits, frac_lengths};
 ghost use Rattle.fixed_fit.specs.Inner.Lengths.{AreLowered};

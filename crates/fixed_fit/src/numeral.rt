@@ -3,7 +3,6 @@
 //! A list is signed if one of its numerals is below zero, even if that numeral rounds to zero. `-0` is not below zero.
 
 ghost use Rattle.std.specs.Prelude.{◌≡◌, ◌↔◌, IsTrue, true, false};
-ghost use Rattle.fixed_bits.specs.Formats.{IsFormat};
 ghost use Rattle.fixed_numeral.specs.Answer.{IsReadOrRefused};
 ghost use Rattle.fixed_fit.specs.Fitting.{IsBelowZero};
 

@@ -3,7 +3,7 @@
 ghost use Rattle.std.specs.Prelude.{◌≡◌, ◌<◌, ◌≤◌, ◌||◌, ◌+◌, ◌^◌, ◌∷◌, ◌++◌, [], List, ℕ, None, false, true, max};
 ghost use Rattle.std.specs.Prelude.{IfSome};
 ghost use Rattle.fixed_bits.specs.Ranges.{IsWidth};
-ghost use Rattle.fixed_fit.specs.Inner.Lengths.{IsFlatRead, IsRoomOf};
+ghost use Rattle.fixed_fit.specs.Inner.Lengths.{IsFlatRead};
 ghost use Rattle.fixed_fit.specs.Inner.Progress.{HasProgress, HasSomeProgress};
 
 use crate::lengths::{Lengths, all_lengths, lowered};

@@ -3,9 +3,7 @@
 ghost use Rattle.std.specs.Prelude.{◌≡◌, ◌<◌, ◌++◌, ◌∷◌, [], List, ℕ, Bool, true, OnOk, IfOk, IfSome, MatchOption};
 ghost use Rattle.std.specs.Prelude.{Option, get_or, length, map, take};
 ghost use Rattle.line_engine.specs.Lines.{lines};
-ghost use Rattle.run_engine.specs.Machines.{Feeds, Finishes, IsGoing, going};
 ghost use Rattle.run_engine.specs.Pieces.{HasNone, is_newline};
-ghost use Rattle.run_engine.specs.Seen.{moment};
 ghost use Rattle.fixed_bits.specs.Ranges.{IsWidth};
 ghost use Rattle.fixed_numeral.specs.Numeral.{IsNumeral};
 ghost use Rattle.fixed_command.specs.LaidList.{laid};

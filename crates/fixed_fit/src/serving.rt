@@ -9,7 +9,7 @@
 //! If a format of a width serves, so does one of each greater width. So for the next lesser width it is enough to keep
 //! the line that last raised the least width: before it a format of that width served, too.
 
-ghost use Rattle.std.specs.Prelude.{◌≡◌, ◌⊎◌, ◌≤◌, ◌<◌, ◌+◌, ◌^◌, ◌++◌, ◌∷◌, ◌↔◌, [], pos};
+ghost use Rattle.std.specs.Prelude.{◌≡◌, ◌⊎◌, ◌≤◌, ◌<◌, ◌+◌, ◌^◌, ◌++◌, ◌∷◌, ◌↔◌, []};
 ghost use Rattle.std.specs.Prelude.{IsTrue, IfOk, IfSome, true, false, List, ℕ, Bool, length};
 ghost use Rattle.fixed_bits.specs.Ranges.{IsWidth};
 ghost use Rattle.fixed_bits.specs.declared.mode.ReadMode.TheVariants.{NearestEven};
@@ -18,7 +18,7 @@ ghost use Rattle.fixed_fit.specs.Fitting.{Choice, choice};
 ghost use Rattle.fixed_fit.specs.Inner.Lengths.{IsFlatRead, IsWholeFraction};
 ghost use Rattle.fixed_numeral.specs.Numeral.{IsNumeral};
 ghost use Rattle.fixed_fit.specs.Inner.Serving.{AreAllLowered, AreFew, HasServing, HasSomeServing, IsBestOf, most_left};
-ghost use Rattle.fixed_fit.specs.Inner.Serving.{AreServed, AreSurelyLeft, Asked, HaveRoom, IsIn, bounded};
+ghost use Rattle.fixed_fit.specs.Inner.Serving.{AreServed, Asked, bounded};
 ghost use Rattle.fixed_fit.specs.Within.{IsErrorWithin, IsHalfWithin, IsTried, most_width};
 
 use crate::half::first_length;

@@ -20,8 +20,11 @@ use Rattle.fixed_read.specs.Reading.{IsReadNumber}
 use Rattle.fixed_read.proofs.Public.{read_unique}
 use Rattle.fixed_write.proofs.Public.{exact_text_unique, shortest_text_unique}
 use Rattle.fixed_write.specs.Texts.{IsShortestText}
-use Rattle.fixed_show.specs.ShortError.{AreFormUlps, IsFormError}
-use Rattle.fixed_show.proofs.ShortLemmas.{form_error_one, form_ulps_one}
+use Rattle.fixed_show.specs.Measured.{MeasuredErrorIsTheOne}
+use Rattle.fixed_show.specs.ShortError.{IsErrorText}
+use Rattle.fixed_show.specs.declared.measure.Measure.{Measure}
+use Rattle.fixed_show.specs.declared.measure.Measure.TheVariants.{Ulps, Value}
+use Rattle.fixed_show.proofs.MeasureLemmas.{error_text_one}
 use Rattle.fixed_show.specs.BitsBlock.{AreBitsFacts, AreValues, fault_message}
 use Rattle.fixed_show.specs.BlockLaws.{BitsBlockIsTheOne, BitsObjectIsTheOne, ShowBlockIsTheOne, ShowObjectIsTheOne, ShowRefusalIsTheOne}
 use Rattle.fixed_show.specs.Blocks.{IsHexText, hex_text}
@@ -64,13 +67,13 @@ bits_object_one bare f text o p a b width x y =
     (same.0, x.object_is ∙ ap (object_text text) same.1 ∙ sym y.object_is)
 
 -- ---- a refused numeral
-pub unread_one : (mode : ReadMode) (r : Radix) (bytes : List ℕ) (f : FormatParts) (policy : Policy) (k l : ParseErrorKind) → IsUnread mode r bytes f policy k → IsUnread mode r bytes f policy l → k ≡ l
+unread_one : (mode : ReadMode) (r : Radix) (bytes : List ℕ) (f : FormatParts) (policy : Policy) (k l : ParseErrorKind) → IsUnread mode r bytes f policy k → IsUnread mode r bytes f policy l → k ≡ l
 unread_one mode r bytes f policy k l (inl a) (inl b) = one_cause r bytes k l a b
 unread_one mode r bytes f policy k l (inl a) (inr b) = absurd (a.none (b.2.parts, b.2.has))
 unread_one mode r bytes f policy k l (inr a) (inl b) = absurd (b.none (a.2.parts, a.2.has))
 unread_one mode r bytes f policy k l (inr a) (inr b) = a.0 ∙ sym b.0
 
-pub read_or_not : (mode : ReadMode) (r : Radix) (bytes : List ℕ) (f : FormatParts) (policy : Policy) (v : ℤ) (o : Bool) (k : ParseErrorKind) → IsReadAs mode r bytes f policy v o → IsUnread mode r bytes f policy k → ⊥
+read_or_not : (mode : ReadMode) (r : Radix) (bytes : List ℕ) (f : FormatParts) (policy : Policy) (v : ℤ) (o : Bool) (k : ParseErrorKind) → IsReadAs mode r bytes f policy v o → IsUnread mode r bytes f policy k → ⊥
 read_or_not mode r bytes f policy v o k a (inl b) = b.none (a.parts, a.numeral)
 read_or_not mode r bytes f policy v o k a (inr b) =
     let p : a.parts ≡ b.2.parts = parts_unique r bytes a.parts b.2.parts a.numeral.beginning b.2.has.beginning in
@@ -79,7 +82,7 @@ read_or_not mode r bytes f policy v o k a (inr b) =
     has_none f.signed f.width b.2.number v b.2.out_of_range (subst (λ (x : ℤ). IsImage Checked f.signed f.width x v) n image)
 
 -- ---- a shown numeral
-pub same_parts : (r : Radix) (bytes : List ℕ) (p q : Parts) → HasNumeral r bytes p → HasNumeral r bytes q → p ≡ q
+same_parts : (r : Radix) (bytes : List ℕ) (p q : Parts) → HasNumeral r bytes p → HasNumeral r bytes q → p ≡ q
 same_parts r bytes p q a b = parts_unique r bytes p q a.beginning b.beginning
 
 flag_one : (Out : ℤ → Type 0) (v w : ℤ) (o p : Bool) → v ≡ w → (IsTrue o ↔ Out v) → (IsTrue p ↔ Out w) → o ≡ p
@@ -88,7 +91,7 @@ flag_one Out v w false false e x y = refl
 flag_one Out v w true false e x y = absurd (false≢true (y.1 (subst Out e (x.0 refl))))
 flag_one Out v w false true e x y = absurd (false≢true (x.1 (subst Out (sym e) (y.0 refl))))
 
-pub read_as_one : (mode : ReadMode) (r : Radix) (bytes : List ℕ) (f : FormatParts) (policy : Policy) (v w : ℤ) (o p : Bool) → IsWidth f.width → IsReadAs mode r bytes f policy v o → IsReadAs mode r bytes f policy w p → (v ≡ w) × (o ≡ p)
+read_as_one : (mode : ReadMode) (r : Radix) (bytes : List ℕ) (f : FormatParts) (policy : Policy) (v w : ℤ) (o p : Bool) → IsWidth f.width → IsReadAs mode r bytes f policy v o → IsReadAs mode r bytes f policy w p → (v ≡ w) × (o ≡ p)
 read_as_one mode r bytes f policy v w o p width x y =
     let parts : x.parts ≡ y.parts = same_parts r bytes x.parts y.parts x.numeral y.numeral in
     let number : x.number ≡ y.number = read_unique mode r y.parts f.frac x.number y.number (subst (λ (q : Parts). IsReadNumber mode r q f.frac x.number) parts x.read) y.read in (
@@ -106,17 +109,18 @@ between_one form r bytes f a b (inl x) (inr y) = absurd (refusal_none r bytes f 
 between_one form r bytes f a b (inr x) (inl y) = absurd (refusal_none r bytes f y.lo y.hi Overflow y.enclosed (inr (refl, x.0)))
 between_one form r bytes f a b (inr x) (inr y) = x.1 ∙ sym y.1
 
+read_error_one : (form : Form) (m : Measure) (r : Radix) (f : ℕ) (p q : Parts) (b c : ℤ) (text other : List ℕ) → p ≡ q → b ≡ c → IsErrorText form m r p f b text → IsErrorText form m r q f c other → text ≡ other
+read_error_one form m r f p q b c text other parts bits x y =
+    let moved : IsErrorText form m r q f c text = subst (λ (v : ℤ). IsErrorText form m r q f v text) bits (subst (λ (t : Parts). IsErrorText form m r t f b text) parts x) in
+    error_text_one form m r q f c text other moved y
+
 shown_one : (form : Form) (mode : ReadMode) (r : Radix) (bytes : List ℕ) (f : FormatParts) (policy : Policy) (a b : List ℕ) → IsWidth f.width → IsShown form mode r bytes f policy a → IsShown form mode r bytes f policy b → a ≡ b
 shown_one form mode r bytes f policy a b width x y =
     let one = read_as_one mode r bytes f policy x.bits y.bits x.overflowed y.overflowed width x.read y.read in
     let parts : x.read.parts ≡ y.read.parts = same_parts r bytes x.read.parts y.read.parts x.read.numeral y.read.numeral in
     let values : x.values ≡ y.values = values_one form f y.bits x.values y.values width (subst (λ (v : ℤ). AreValues form f v x.values) one.0 x.are_values) y.are_values in
-    let moved : IsFormError form r y.read.parts f.frac y.bits y.overflowed x.error
-    = subst (λ (o : Bool). IsFormError form r y.read.parts f.frac y.bits o x.error) one.1 (subst (λ (v : ℤ). IsFormError form r y.read.parts f.frac v x.overflowed x.error) one.0 (subst (λ (q : Parts). IsFormError form r q f.frac x.bits x.overflowed x.error) parts x.is_error)) in
-    let error : x.error ≡ y.error = form_error_one form r y.read.parts f.frac y.bits y.overflowed x.error y.error moved y.is_error in
-    let counted : AreFormUlps form r y.read.parts f.frac y.bits y.overflowed x.ulps
-    = subst (λ (o : Bool). AreFormUlps form r y.read.parts f.frac y.bits o x.ulps) one.1 (subst (λ (v : ℤ). AreFormUlps form r y.read.parts f.frac v x.overflowed x.ulps) one.0 (subst (λ (q : Parts). AreFormUlps form r q f.frac x.bits x.overflowed x.ulps) parts x.are_ulps)) in
-    let ulps : x.ulps ≡ y.ulps = form_ulps_one form r y.read.parts f.frac y.bits y.overflowed x.ulps y.ulps counted y.are_ulps in
+    let error : x.error ≡ y.error = read_error_one form Value r f.frac x.read.parts y.read.parts x.bits y.bits x.error y.error parts one.0 x.is_error y.is_error in
+    let ulps : x.ulps ≡ y.ulps = read_error_one form Ulps r f.frac x.read.parts y.read.parts x.bits y.bits x.ulps y.ulps parts one.0 x.are_ulps y.are_ulps in
     let between : x.between ≡ y.between = between_one form r bytes f x.between y.between x.is_between y.is_between in
     x.facts_are ∙ (rw (values, error, ulps, between, one.1) (sym y.facts_are))
 
@@ -142,3 +146,14 @@ show_facts_apart form mode r bytes f policy a b x y = read_or_not mode r bytes f
 pub refusal_one : ShowRefusalIsTheOne
 refusal_one mode r bytes f policy true a b x y = (refl, x.facts_are ∙ ap (λ k. refusal Lines (message_of k)) (unread_one mode r bytes f policy x.kind y.kind x.unread y.unread) ∙ sym y.facts_are)
 refusal_one mode r bytes f policy false a b x y = absurd (read_or_not mode r bytes f policy y.bits y.overflowed x.kind y.read x.unread)
+
+-- a numeral has one error
+pub measured_error_one : MeasuredErrorIsTheOne
+measured_error_one = record {
+  error = λ m mode r bytes f policy text other width x y.
+      let one = read_as_one mode r bytes f policy x.bits y.bits x.overflowed y.overflowed width x.read y.read in
+      let parts : x.read.parts ≡ y.read.parts = same_parts r bytes x.read.parts y.read.parts x.read.numeral y.read.numeral in
+      read_error_one Lines m r f.frac x.read.parts y.read.parts x.bits y.bits text other parts one.0 x.is_error y.is_error;
+  refusal = λ mode r bytes f policy kind other x y. unread_one mode r bytes f policy kind other x y;
+  apart = λ m mode r bytes f policy kind text x y. read_or_not mode r bytes f policy y.bits y.overflowed kind y.read x;
+}

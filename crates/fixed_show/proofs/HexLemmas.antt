@@ -1,13 +1,9 @@
 -- Words in hexadecimal.
-use Rattle.std.proofs.Common.{◌≡◌, ℕ, ◌+◌, ◌-◌, suc, ◌/◌, ◌%◌, ◌^◌, ◌<◌, ◌≤◌, List, [], ◌∷◌, ◌++◌, Bool, false, ap, sym, ◌∙◌, arith, ℤ, pos, append_assoc, codes}
+use Rattle.std.proofs.Common.{◌≡◌, ℕ, ◌+◌, ◌/◌, List, [], ◌∷◌, ◌++◌, Bool, false, ◌∙◌, arith, ℤ, pos, append_assoc, codes}
 use Rattle.std.specs.Prelude.{unsigned_abs}
-use Rattle.std.specs.Fmt.{digit_glyph}
 use Rattle.std.proofs.lemmas.Int.{ints}
-use Rattle.std.proofs.lemmas.List.{append-nil}
-use Rattle.std.proofs.Math.Nat.{div-div-eq-div-mul, div-one, pow-suc, pow-zero}
 use Rattle.fixed_bits.specs.Images.{IsWrapped}
 use Rattle.fixed_write.specs.Texts.{last_digits}
-use Rattle.fixed_write.proofs.Public.{last_digits_more, last_digits_none}
 use Rattle.fixed_show.specs.Blocks.{hex_text}
 use Rattle.fixed_show.specs.Forms.{end_byte, fact, label}
 use Rattle.fixed_show.specs.declared.form.Form.{Form}

@@ -1,6 +1,7 @@
 pub mod LineLemmas
 pub mod WordLemmas
 pub mod FormatLemmas
+pub mod FormatLawLemmas
 pub mod HexLemmas
 pub mod NibbleLemmas
 pub mod ShowLemmas
@@ -10,12 +11,6 @@ pub mod ErrorLemmas
 pub mod DifferenceLemmas
 pub mod BoundLemmas
 pub mod BriefLemmas
-pub mod SizeLemmas
-pub mod PowerLemmas
-pub mod TallLemmas
-pub mod BoundedLemmas
-pub mod UlpsLemmas
-pub mod ShownErrorLemmas
 pub mod ShortLemmas
 pub mod DecimalErrorLemmas
 pub mod JsonLemmas

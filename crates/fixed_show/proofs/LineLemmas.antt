@@ -1,8 +1,8 @@
 -- Lines appended part by part.
-use Rattle.std.proofs.Common.{◌≡◌, ℕ, ◌+◌, ◌≤◌, List, [], ◌∷◌, ◌++◌, length, take, ◌-◌, codes, ap, sym, ◌∙◌, arith, append_assoc, length-append}
+use Rattle.std.proofs.Common.{◌≡◌, ℕ, ◌+◌, ◌≤◌, List, [], ◌∷◌, ◌++◌, length, take, ◌-◌, codes, ap, sym, subst, ◌∙◌, arith, append_assoc, length-append}
 use Rattle.std.proofs.Common.{ℤ}
 use Rattle.std.specs.Fmt.{signed_decimal}
-use Rattle.fixed_show.specs.Blocks.{line}
+use Rattle.fixed_show.specs.Blocks.{Appends, line}
 use Rattle.fixed_show.specs.Forms.{end_byte, fact, label}
 use Rattle.fixed_show.specs.declared.form.Form.{Form}
 use Rattle.fixed_show.specs.declared.form.Form.TheVariants.{Lines, Members}
@@ -72,3 +72,12 @@ pub seven_lines : (old o1 o2 o3 o4 o5 o6 o7 a b c d f g h : List ℕ) → o1 ≡
 seven_lines old o1 o2 o3 o4 o5 o6 o7 a b c d f g h p q r s t u v =
     let e : o7 ≡ (((((((old ++ a) ++ b) ++ c) ++ d) ++ f) ++ g) ++ h) = cc in
     e ∙ simp append_assoc
+
+pub three_texts : (old o1 o2 o3 a b c : List ℕ) → o1 ≡ old ++ a → o2 ≡ o1 ++ b → o3 ≡ o2 ++ c → o3 ≡ old ++ (a ++ (b ++ c))
+three_texts old o1 o2 o3 a b c p q r =
+    let e : o3 ≡ ((old ++ a) ++ b) ++ c = cc in
+    e ∙ simp append_assoc
+
+-- a text that was appended to nothing
+pub alone : (Is : List ℕ → Type 0) (most : ℕ) (before after : List ℕ) → before ≡ [] → Appends Is most before after → Is after
+alone Is most before after none t = subst Is (sym (t.appended ∙ ap (λ s. s ++ t.text) none)) t.is_text

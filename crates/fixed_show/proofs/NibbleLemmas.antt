@@ -1,5 +1,5 @@
 -- Digits of radix 16 in the lanes of a vector.
-use Rattle.std.proofs.Common.{pow-suc, ◌≡◌, ◌∙◌, ℕ, zero, suc, ◌+◌, ◌-◌, ◌*◌, ◌/◌, ◌%◌, ◌^◌, ◌<◌, ◌≤◌, Bool, List, [], ◌∷◌, ◌++◌, ap, append-nil, append_assoc, arith, refl, cond, false, map, sym, take, ◌⊎◌, inl, inr}
+use Rattle.std.proofs.Common.{pow-suc, ◌≡◌, ◌∙◌, ℕ, zero, suc, ◌+◌, ◌-◌, ◌*◌, ◌/◌, ◌%◌, ◌^◌, ◌<◌, ◌≤◌, List, [], ◌∷◌, ◌++◌, ap, append-nil, append_assoc, arith, refl, cond, false, map, sym, take, ◌⊎◌, inl, inr}
 use Rattle.fixed_numeral.proofs.Public.{pow-mul}
 use Rattle.fixed_show.specs.Inner.Nibbles.{nibbles_of}
 use Rattle.fixed_write.proofs.Public.{last_digits_length, last_digits_none, last_digits_suc}

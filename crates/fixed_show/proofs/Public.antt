@@ -11,10 +11,11 @@ use Rattle.fixed_show.specs.DecimalError.{DecimalErrorIsTheOne}
 use Rattle.fixed_show.specs.FormatBlock.{FormatBlockIsTheOne, FormatObjectIsTheOne}
 use Rattle.fixed_show.specs.Measured.{MeasuredErrorIsTheOne}
 use Rattle.fixed_show.specs.PartLaws.{PartBlockIsTheOne, PartFaultIsTheOne, PartHasNoFault, PartObjectIsTheOne}
+use Rattle.fixed_show.specs.ShortError.{ErrorTextIsTheOne}
 use Rattle.fixed_show.specs.WordLaws.{WordFaultIsTheOne, WordHasNoFault, WordIsTheOne}
 use Rattle.fixed_show.proofs.BlockLawLemmas
-use Rattle.fixed_show.proofs.BoundedLemmas
 use Rattle.fixed_show.proofs.DecimalErrorLemmas
+use Rattle.fixed_show.proofs.FormatLawLemmas
 use Rattle.fixed_show.proofs.MeasureLemmas
 use Rattle.fixed_show.proofs.PartLemmas
 use Rattle.fixed_show.proofs.WordLawLemmas
@@ -38,10 +39,10 @@ pub show_refusal_one : ShowRefusalIsTheOne
 show_refusal_one = BlockLawLemmas.refusal_one
 
 pub format_block_one : FormatBlockIsTheOne
-format_block_one = BoundedLemmas.format_block_one
+format_block_one = FormatLawLemmas.format_block_one
 
 pub format_object_one : FormatObjectIsTheOne
-format_object_one = BoundedLemmas.format_object_one
+format_object_one = FormatLawLemmas.format_object_one
 
 pub part_fault_one : PartFaultIsTheOne
 part_fault_one = PartLemmas.part_fault_one
@@ -68,4 +69,7 @@ pub decimal_error_one : DecimalErrorIsTheOne
 decimal_error_one = DecimalErrorLemmas.decimal_error_one
 
 pub measured_error_one : MeasuredErrorIsTheOne
-measured_error_one = MeasureLemmas.measured_error_one
+measured_error_one = BlockLawLemmas.measured_error_one
+
+pub error_text_one : ErrorTextIsTheOne
+error_text_one = MeasureLemmas.error_text_one

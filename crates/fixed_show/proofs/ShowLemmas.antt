@@ -1,5 +1,5 @@
 -- Numerals that were read into a format.
-use Rattle.std.proofs.Common.{◌≡◌, inl, inr, ◌↔◌, ◌⊎◌, false, ℕ, List, [], ◌∷◌, ◌++◌, Bool, IsTrue, ℤ, subst, sym, ap, ◌∙◌, append_assoc, codes}
+use Rattle.std.proofs.Common.{◌≡◌, inl, inr, ◌↔◌, ◌⊎◌, false, ℕ, List, [], ◌∷◌, ◌++◌, Bool, IsTrue, ℤ, subst, sym, ◌∙◌, append_assoc, codes}
 use Rattle.std.specs.Fmt.{signed_decimal}
 use Rattle.fixed_bits.specs.Formats.{FormatParts}
 use Rattle.fixed_bits.specs.Images.{IsImage, IsOutOfRangeBy}
@@ -18,9 +18,7 @@ use Rattle.std.proofs.lemmas.Bool.{false≢true}
 use Rattle.fixed_read.specs.Reading.{IsReading, IsReadNumber, IsWholeUlps, number_in}
 use Rattle.fixed_read.specs.declared.read_number.ReadNumber.{ReadNumber}
 use Rattle.fixed_show.specs.Forms.{fact, label}
-use Rattle.fixed_show.specs.declared.form.Form.{Form}
 use Rattle.fixed_show.specs.declared.form.Form.TheVariants.{Lines}
-use Rattle.fixed_show.specs.Inner.Errors.{error_facts}
 use Rattle.fixed_show.specs.ShowBlock.{IsReadAs, IsUnread, neighbours}
 
 pub read_as : (mode : ReadMode) (r : Radix) (bytes : List ℕ) (f : FormatParts) (policy : Policy) (p : Parts) (found : ReadNumber) (bits : ℤ) (flag : Bool)
@@ -110,12 +108,7 @@ pub not_enclosed : (r : Radix) (bytes : List ℕ) (f : FormatParts) (kind : Pars
 not_enclosed r bytes f kind n (inl c) = absurd (c.none n)
 not_enclosed r bytes f kind n (inr h) = h.1
 
-pub four_blocks : (old o1 o2 o3 o4 a b c d : List ℕ) → o1 ≡ old ++ a → o2 ≡ o1 ++ b → o3 ≡ o2 ++ c → o4 ≡ o3 ++ d → o4 ≡ old ++ (a ++ (b ++ (c ++ d)))
-four_blocks old o1 o2 o3 o4 a b c d p q r s =
-    let e : o4 ≡ (((old ++ a) ++ b) ++ c) ++ d = cc in
-    e ∙ simp append_assoc
-
-pub shown_facts : (form : Form) (values errors error ulps more : List ℕ) → errors ≡ error_facts form error ulps
-    → values ++ (errors ++ more) ≡ values ++ (fact form (codes "error") error ++ (fact form (codes "ulps") ulps ++ more))
-shown_facts form values errors error ulps more e =
-    ap (λ t. values ++ (t ++ more)) e ∙ ap (λ t. values ++ t) (append_assoc (fact form (codes "error") error) (fact form (codes "ulps") ulps) more)
+pub five_blocks : (old o1 o2 o3 o4 o5 a b c d e : List ℕ) → o1 ≡ old ++ a → o2 ≡ o1 ++ b → o3 ≡ o2 ++ c → o4 ≡ o3 ++ d → o5 ≡ o4 ++ e → o5 ≡ old ++ (a ++ (b ++ (c ++ (d ++ e))))
+five_blocks old o1 o2 o3 o4 o5 a b c d e p q r s t =
+    let x : o5 ≡ ((((old ++ a) ++ b) ++ c) ++ d) ++ e = cc in
+    x ∙ simp append_assoc

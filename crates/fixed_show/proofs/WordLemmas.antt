@@ -62,9 +62,6 @@ pub record HasNumber (r : ℕ) (bs : List ℕ) (number c : ℕ) : Type 0 where
   pub digits : AllDigits r (without_underscores bs)
   pub number_is : number ≡ min (digits_value r (without_underscores bs)) c
 
-pub number_none : (r c : ℕ) → 0 < c → HasNumber r [] 0 c
-number_none r c h = record { digits = tt; number_is = omega arith }
-
 pub number_underscore : (r : ℕ) (bs : List ℕ) (i n c b : ℕ) → i < length bs → b ≡ get_or bs i 0 → b ≡ 95 → HasNumber r (take i bs) n c → HasNumber r (take (i + 1) bs) n c
 number_underscore r bs i n c b h e u p = let s = without_more_underscore bs i h (sym e ∙ u) in record { digits = subst (AllDigits r) (sym s) p.digits; number_is = p.number_is ∙ ap (λ ds. min (digits_value r ds) c) (sym s) }
 

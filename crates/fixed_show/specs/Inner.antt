@@ -3,7 +3,5 @@ pub mod Naturals
 pub mod Decimals
 pub mod Errors
 pub mod Words
-pub mod Powers
-pub mod ErrorTexts
 pub mod Measures
 pub mod Nibbles

@@ -9,7 +9,6 @@ pub mod BitsBlock
 pub mod PartText
 pub mod PartLaws
 pub mod ErrorText
-pub mod UlpsText
 pub mod ShortError
 pub mod DecimalError
 pub mod ShowBlock

@@ -4,18 +4,12 @@ use Rattle.fixed_bits.specs.Formats.{FormatParts}
 use Rattle.fixed_bits.specs.Ranges.{IsWidth}
 use Rattle.fixed_bits.specs.declared.format.Policy.{Policy}
 use Rattle.fixed_bits.specs.declared.mode.ReadMode.{ReadMode}
-use Rattle.fixed_numeral.specs.Numeral.{Parts}
 use Rattle.fixed_numeral.specs.declared.error.ParseErrorKind.{ParseErrorKind}
 use Rattle.fixed_numeral.specs.declared.radix.Radix.{Radix}
-use Rattle.fixed_show.specs.ShortError.{AreBlockUlps, IsBlockError}
+use Rattle.fixed_show.specs.ShortError.{IsErrorText}
 use Rattle.fixed_show.specs.ShowBlock.{IsReadAs, IsUnread}
+use Rattle.fixed_show.specs.declared.form.Form.TheVariants.{Lines}
 use Rattle.fixed_show.specs.declared.measure.Measure.{Measure}
-use Rattle.fixed_show.specs.declared.measure.Measure.TheVariants.{Ulps, Value}
-
--- the text is the error by a measure in a block
-abbrev pub IsMeasured : Measure → Radix → Parts → ℕ → ℤ → Bool → List ℕ → Type 0
-IsMeasured Value r p f b overflowed text = IsBlockError r p f b overflowed text
-IsMeasured Ulps r p f b overflowed text = AreBlockUlps r p f b overflowed text
 
 -- the text is the error of the bits that a numeral is read as, by a measure
 pub record IsMeasuredError (m : Measure) (mode : ReadMode) (r : Radix) (bytes : List ℕ) (f : FormatParts)
@@ -23,7 +17,7 @@ pub record IsMeasuredError (m : Measure) (mode : ReadMode) (r : Radix) (bytes : 
   pub bits : ℤ
   pub overflowed : Bool
   pub read : IsReadAs mode r bytes f policy bits overflowed
-  pub is_error : IsMeasured m r read.parts f.frac bits overflowed text
+  pub is_error : IsErrorText Lines m r read.parts f.frac bits text
 
 -- a numeral has one error by a measure, or one kind of refusal
 pub record MeasuredErrorIsTheOne : Type 0 where

@@ -20,8 +20,8 @@ use Rattle.fixed_show.specs.Forms.{fact, refusal}
 use Rattle.fixed_show.specs.JsonText.{object_text}
 use Rattle.fixed_show.specs.declared.form.Form.{Form}
 use Rattle.fixed_show.specs.declared.form.Form.TheVariants.{Lines, Members}
-use Rattle.fixed_show.specs.ErrorText.{IsErrorText}
-use Rattle.fixed_show.specs.ShortError.{AreFormUlps, IsFormError}
+use Rattle.fixed_show.specs.ShortError.{IsErrorText}
+use Rattle.fixed_show.specs.declared.measure.Measure.TheVariants.{Ulps, Value}
 
 -- `bytes` are a numeral, `bits` are the image of its rounded number, and `overflowed` says whether that number is out
 -- of the range that the policy leaves
@@ -49,7 +49,7 @@ pub record IsShownError (mode : ReadMode) (r : Radix) (bytes : List ℕ) (f : Fo
   pub bits : ℤ
   pub overflowed : Bool
   pub read : IsReadAs mode r bytes f policy bits overflowed
-  pub is_error : IsErrorText r read.parts f.frac bits overflowed text
+  pub is_error : IsErrorText Members Value r read.parts f.frac bits text
 
 -- the texts of two values, each with its bits
 abbrev pub neighbours_text : List ℕ → ℤ → List ℕ → ℤ → List ℕ
@@ -101,9 +101,9 @@ pub record IsShown (form : Form) (mode : ReadMode) (r : Radix) (bytes : List ℕ
   pub values : List ℕ
   pub are_values : AreValues form f bits values
   pub error : List ℕ
-  pub is_error : IsFormError form r read.parts f.frac bits overflowed error
+  pub is_error : IsErrorText form Value r read.parts f.frac bits error
   pub ulps : List ℕ
-  pub are_ulps : AreFormUlps form r read.parts f.frac bits overflowed ulps
+  pub are_ulps : IsErrorText form Ulps r read.parts f.frac bits ulps
   pub between : List ℕ
   pub is_between : IsBetween form r bytes f between
   pub facts_are : facts ≡ values

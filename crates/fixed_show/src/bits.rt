@@ -1,7 +1,6 @@
 //! The number that the bits of a register stand for.
 
-ghost use Rattle.std.specs.Prelude.{◌≡◌, ◌+◌, ◌-◌, ◌*◌, ◌≤◌, ◌<◌, ◌^◌, ◌/◌, ◌++◌, false, pos, length, codes, IsTrue};
-ghost use Rattle.std.specs.Prelude.{◌↔◌};
+ghost use Rattle.std.specs.Prelude.{◌≡◌, ◌+◌, ◌-◌, ◌≤◌, ◌<◌, ◌/◌, ◌++◌, false, pos, length, codes};
 ghost use Rattle.fixed_bits.specs.Images.{IsWrapped};
 ghost use Rattle.fixed_bits.specs.Ranges.{IsWide};
 ghost use Rattle.fixed_show.specs.Blocks.{Appends, hex_text};

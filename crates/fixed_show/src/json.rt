@@ -4,7 +4,7 @@
 //! filled. `given` has for each byte the character of that number, so it also holds bytes that are not UTF-8, and
 //! different words have different texts.
 
-ghost use Rattle.std.specs.Prelude.{◌≡◌, ◌+◌, ◌*◌, ◌≤◌, ◌++◌, flat_map, length, take, codes};
+ghost use Rattle.std.specs.Prelude.{◌≡◌, ◌+◌, ◌*◌, ◌≤◌, ◌++◌, length, take, codes};
 ghost use Rattle.fixed_show.specs.Forms.{refusal};
 ghost use Rattle.fixed_show.specs.JsonText.{json_byte, json_text, object_text};
 ghost use Rattle.fixed_show.specs.declared.form.Form.TheVariants.{Members};

@@ -3,13 +3,11 @@
 ghost use Rattle.fixed_show.specs.BlockLaws.{BitsBlockIsTheOne, BitsObjectIsTheOne, ShowBlockIsTheOne};
 ghost use Rattle.fixed_show.specs.BlockLaws.{ShowObjectIsTheOne, ShowRefusalIsTheOne};
 ghost use Rattle.fixed_show.specs.DecimalError.{DecimalErrorIsTheOne};
-ghost use Rattle.fixed_show.specs.ErrorText.{ErrorTextIsTheOne};
 ghost use Rattle.fixed_show.specs.JsonText.{JsonTextIsOneToOne};
 ghost use Rattle.fixed_show.specs.FormatBlock.{FormatBlockIsTheOne, FormatObjectIsTheOne, PlacesSurvive};
 ghost use Rattle.fixed_show.specs.Measured.{MeasuredErrorIsTheOne};
-ghost use Rattle.fixed_show.specs.ShortError.{BlockErrorIsTheOne, BlockUlpsAreTheOne};
+ghost use Rattle.fixed_show.specs.ShortError.{ErrorTextIsTheOne};
 ghost use Rattle.fixed_show.specs.ToolNames.{ArmNameIsAName};
-ghost use Rattle.fixed_show.specs.UlpsText.{UlpsTextIsTheOne};
 ghost use Rattle.fixed_show.specs.WordLaws.{WordFaultIsTheOne, WordHasNoFault, WordIsTheOne};
 
 /// A decimal with no more digits after the point than the block of a format says survives reading and printing.
@@ -33,20 +31,9 @@ pub fn decimal_error_is_the_one()
     ensures { DecimalErrorIsTheOne }
 {}
 
-/// The error of bits has one text.
+/// The error of bits, by value or in ulps, has one text in a block, and one in an object.
 pub fn error_text_is_the_one()
     ensures { ErrorTextIsTheOne }
-{}
-
-/// The error of bits in ulps has one text.
-pub fn ulps_text_is_the_one()
-    ensures { UlpsTextIsTheOne }
-{}
-
-/// The error of bits has one text in a block, and one in ulps.
-pub fn block_error_is_the_one()
-    ensures error { BlockErrorIsTheOne }
-    ensures ulps { BlockUlpsAreTheOne }
 {}
 
 /// A format has one block, and one object.

@@ -20,7 +20,6 @@ pub mod part_laws;
 pub mod parts;
 pub mod show;
 pub mod shown_errors;
-mod sizes;
 mod tool_names;
 mod ulps;
 pub mod words;

@@ -4,7 +4,7 @@
 //! with more than 18 places, of one and more, and of more than 38 places.
 
 ghost use Rattle.std.specs.Prelude.{◌≡◌, ◌+◌, ◌-◌, ◌*◌, ◌/◌, ◌^◌, ◌<◌, ◌≤◌, ◌++◌, ◌-ℤ◌, length, pos, IfSome};
-ghost use Rattle.std.specs.Prelude.{Bool, IsTrue, false, true};
+ghost use Rattle.std.specs.Prelude.{IsTrue, false, true};
 ghost use Rattle.std.specs.Int.{is_negative};
 ghost use Rattle.fixed_bits.specs.Numbers.{with_sign};
 ghost use Rattle.fixed_bits.specs.Ranges.{IsWide};
@@ -12,11 +12,12 @@ ghost use Rattle.fixed_numeral.specs.Numeral.{HasNumeral, Parts};
 ghost use Rattle.fixed_numeral.specs.Value.{magnitude};
 ghost use Rattle.fixed_numeral.specs.declared.radix.Radix.{Radix as RadixOf};
 ghost use Rattle.fixed_show.specs.Blocks.{Appends};
-ghost use Rattle.fixed_show.specs.ErrorText.{IsBriefNumeral, error_den, error_num};
+ghost use Rattle.fixed_show.specs.ErrorText.{error_den, error_num};
 ghost use Rattle.fixed_show.specs.Inner.Decimals.{AreTrailing, IsTrimmed};
 ghost use Rattle.fixed_show.specs.Inner.Errors.{IsDecimalOf};
-ghost use Rattle.fixed_show.specs.Inner.Measures.{IsDecimalNumeral, measured_den};
-ghost use Rattle.fixed_show.specs.Measured.{IsMeasured};
+ghost use Rattle.fixed_show.specs.Inner.Measures.{IsDecimalNumeral};
+ghost use Rattle.fixed_show.specs.ShortError.{IsErrorText, measured_den};
+ghost use Rattle.fixed_show.specs.declared.form.Form.TheVariants.{Lines};
 ghost use Rattle.fixed_write.specs.Texts.{fraction_part, last_digits};
 
 use crate::decimals::push_sign;
@@ -259,9 +260,9 @@ pub(crate) fn push_narrow_error<const N: usize>(
     requires wide { IsWide bits }
     requires few { numeral.places ≤ 18 }
     requires room { length out.old + 1380 ≤ N }
-    ensures error { result ≡ true → (r : RadixOf) (p : Parts) (overflowed : Bool)
+    ensures error { result ≡ true → (r : RadixOf) (p : Parts)
         → IsDecimalNumeral r p numeral.number numeral.places numeral.is_negative
-        → Appends (IsMeasured measure r p frac bits overflowed) 1380 out.old out.new }
+        → Appends (IsErrorText Lines measure r p frac bits) 1380 out.old out.new }
     ensures none { result ≡ false → out.new ≡ out.old }
     ensures short { length out.new ≤ length out.old + 1380 }
 {

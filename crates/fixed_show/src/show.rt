@@ -15,13 +15,14 @@ ghost use Rattle.fixed_show.specs.ShowBlock.{HasNoBits, IsBetween, IsReadAs, IsS
 ghost use Rattle.fixed_show.specs.ShowBlock.{IsShownError, IsUnread, neighbours, no_neighbours, range_text};
 
 use crate::bits::push_values;
-use crate::errors::push_error_text;
+use crate::errors::brief_decimal;
 use crate::form::{Form, push_label};
 use crate::json::{MAX_OBJECT, push_given};
 use crate::lines::{
     MAX_BLOCK, frac_of, push_fact, push_integer_fact, push_refusal, push_shortest_fact,
 };
-use crate::ulps::push_errors;
+use crate::measure::Measure;
+use crate::ulps::{push_error, push_error_fact};
 use fixed_bits::{Format, Image, Policy, ReadMode, is_refused};
 use fixed_enclose::enclose;
 use fixed_numeral::{ParseErrorKind, ParseFixedError, Radix};
@@ -213,7 +214,7 @@ fn push_range<const N: usize>(out: &mut TextBuffer<N>, form: Form, overflowed: b
     }
 }
 
-/// Appends the text of the error of the bits that a numeral is read as, in full if it is known exactly. Returns false
+/// Appends the text of the error of the bits that a numeral is read as, in full if the numeral is brief. Returns false
 /// and appends nothing if the numeral is refused. There must be room for 1,380 bytes.
 pub fn push_error_of<const N: usize, L: Ledger>(
     text: &[u8],
@@ -232,14 +233,14 @@ pub fn push_error_of<const N: usize, L: Ledger>(
 {
     match read_shown(text, radix, format, policy, mode, steps) {
         Ok(shown) => {
-            push_error_text(
-                text,
-                radix,
-                frac_of(format),
-                shown.bits,
-                shown.overflowed,
+            let numeral = brief_decimal(text, radix, steps);
+            push_error(
                 out,
-                steps,
+                Form::Members,
+                Measure::Value,
+                shown.bits,
+                frac_of(format),
+                &numeral,
             );
             true
         }
@@ -267,19 +268,38 @@ fn push_shown<const N: usize, L: Ledger>(
     ensures cost { steps.new ≤ steps.old + 18 * length text.now + 2733 }
 {
     push_values(out, form, shown.bits, format, steps);
-    push_errors(out, form, shown, frac_of(format), text, radix, steps);
+    let frac = frac_of(format);
+    let numeral = brief_decimal(text, radix, steps);
+    push_error_fact(
+        out,
+        form,
+        b"error",
+        Measure::Value,
+        shown.bits,
+        frac,
+        &numeral,
+    );
+    push_error_fact(
+        out,
+        form,
+        b"ulps",
+        Measure::Ulps,
+        shown.bits,
+        frac,
+        &numeral,
+    );
     push_between(out, form, text, radix, format, steps);
     push_range(out, form, shown.overflowed);
 }
 
 /// Appends the block of a numeral in a format: the shortest text of the bits that it is read as, the bits in decimal
 /// and in hexadecimal, their exact value, the exact error (that value less the numeral's), the error in ulps, the two
-/// values of the format that enclose the numeral, and whether the read number was in range. An error is known exactly
-/// if the numeral, in decimal and without an exponent, has at most 100 digits before the point and 1,100 after it. If
-/// so, and with at most 60 digits after the point, it is written in full; otherwise the line names a power of ten that
-/// it is below. A refused numeral gets only one line, `error: ` and why. Returns true if it is refused. There must be
-/// room for `MAX_BLOCK` bytes. It takes at most 26 steps for each byte, and 3,307, not counting the arithmetic of the
-/// errors: at most some 5,000 passes over a number of 144 limbs.
+/// values of the format that enclose the numeral, and whether the read number was in range. An error is written if the
+/// numeral, in decimal and without an exponent, has at most 100 digits before the point and 1,100 after it; otherwise
+/// the line says that the numeral is too long. An error with more than 60 digits after the point is given as the least
+/// power of ten that it is below. A refused numeral gets only one line, `error: ` and why. Returns true if it is
+/// refused. There must be room for `MAX_BLOCK` bytes. It takes at most 26 steps for each byte, and 3,307, not counting
+/// the arithmetic of the errors: at most some 5,000 passes over a number of 144 limbs.
 pub fn show_block<const N: usize, L: Ledger>(
     text: &[u8],
     radix: Radix,
@@ -305,8 +325,8 @@ pub fn show_block<const N: usize, L: Ledger>(
     }
 }
 
-/// Appends the same as a JSON object of at most `MAX_OBJECT` bytes, with each exactly known error in full. Its first
-/// member, `given`, has the first 768 bytes of the numeral. `refused` says why a numeral is refused.
+/// Appends the same as a JSON object of at most `MAX_OBJECT` bytes, with each written error in full. Its first member,
+/// `given`, has the first 768 bytes of the numeral. `refused` says why a numeral is refused.
 pub fn show_object<const N: usize, L: Ledger>(
     text: &[u8],
     radix: Radix,

@@ -4,18 +4,18 @@
 //! in two's complement, so in `I8F8` `65152` is -384, and `+65152` is out of range. If words without a prefix are in
 //! radix 16, `0b10` is hexadecimal, as `--print readmemh` writes it.
 
-ghost use Rattle.std.specs.Prelude.{◌≡◌, ◌⊎◌, ◌+◌, ◌*◌, ◌^◌, ◌≤◌, ◌<◌, ◌↔◌, IsTrue, ℕ, pos, [], true, false, IfOk};
+ghost use Rattle.std.specs.Prelude.{◌≡◌, ◌+◌, ◌*◌, ◌^◌, ◌≤◌, ◌<◌, ◌↔◌, pos, true, false, IfOk};
 ghost use Rattle.std.specs.Prelude.{MatchOption, MatchResult, length, min};
 ghost use Rattle.std.specs.Char.{digit_value};
 ghost use Rattle.std.specs.Str.Parse.{AllDigits, digits_value};
 ghost use Rattle.fixed_bits.specs.Images.{IsWrapped};
 ghost use Rattle.fixed_bits.specs.Numbers.{with_sign};
-ghost use Rattle.fixed_bits.specs.Ranges.{IsInRange, IsOutOfRange, IsWide};
+ghost use Rattle.fixed_bits.specs.Ranges.{IsWide};
 ghost use Rattle.fixed_numeral.specs.Literal.{without_underscores};
 ghost use Rattle.fixed_numeral.specs.Numeral.{base};
-ghost use Rattle.fixed_show.specs.WordText.{HasWordFault, IsWord, IsWordText, after_prefix, begins_with_underscore};
-ghost use Rattle.fixed_show.specs.WordText.{has_minus, has_sign, letter_radix, prefix_radix, without_sign};
-ghost use Rattle.fixed_show.specs.WordText.{word_digits, word_radix};
+ghost use Rattle.fixed_show.specs.WordText.{HasWordFault, IsWord, after_prefix};
+ghost use Rattle.fixed_show.specs.WordText.{has_sign, letter_radix};
+ghost use Rattle.fixed_show.specs.WordText.{word_radix};
 ghost use Rattle.fixed_show.specs.BitsBlock.{fault_message};
 ghost use Rattle.fixed_show.specs.Inner.Words.{IsCutOff, IsUnspelled};
 

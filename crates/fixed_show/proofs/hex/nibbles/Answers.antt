@@ -1,4 +1,4 @@
-use Rattle.std.proofs.Common.{◌≡◌, ◌/◌, ◌%◌, ◌^◌, ◌+◌, ℕ, [], ◌∷◌, arith, bit_and}
+use Rattle.std.proofs.Common.{◌≡◌, ◌/◌, ◌%◌, ◌^◌, ◌+◌, [], ◌∷◌, arith, bit_and}
 use Rattle.std.proofs.lemmas.Nat.{and_mask}
 use Rattle.fixed_show.proofs.hex.nibbles.Goals as goal
 

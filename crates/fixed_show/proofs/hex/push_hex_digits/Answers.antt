@@ -1,4 +1,4 @@
-use Rattle.std.proofs.Common.{◌≡◌, ◌≤◌, ◌*◌, false, refl, take, ◌++◌, ◌∷◌, ◌-◌, [], inl, inr, arith, ap, length, length-append, sym, ◌∙◌}
+use Rattle.std.proofs.Common.{◌≡◌, ◌≤◌, ◌*◌, false, refl, take, ◌++◌, ◌∷◌, ◌-◌, [], inl, inr, arith, ap, length, length-append, ◌∙◌}
 use Rattle.fixed_write.specs.Texts.{last_digits}
 use Rattle.fixed_show.proofs.NibbleLemmas.{moved_digits, zeros_before, zeros_more, zeros_none, sixteen_or_all}
 use Rattle.fixed_show.proofs.hex.push_hex_digits.Goals as goal

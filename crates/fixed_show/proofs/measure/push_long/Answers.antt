@@ -1,19 +1,14 @@
-use Rattle.std.proofs.Common.{◌≡◌, ℤ, false}
-use Rattle.std.proofs.lemmas.Bool.{false≢true}
+use Rattle.std.proofs.Common.{ℤ, FitsSigned, rules}
+use Rattle.std.specs.Int.{w128}
+use Rattle.std.proofs.lemmas.Int.{to_z-of_z}
 use Rattle.fixed_show.specs.Blocks.{Appends}
-use Rattle.fixed_show.specs.Inner.Errors.{IsLessThanUlp}
-use Rattle.fixed_show.specs.Measured.{IsMeasured}
+use Rattle.fixed_show.specs.ShortError.{IsErrorText}
+use Rattle.fixed_show.specs.declared.form.Form.TheVariants.{Lines}
 use Rattle.fixed_show.proofs.measure.push_long.Goals as goal
 
-pub returns-in-Ok-clause-error : goal.returns-in-Ok-clause-error
-returns-in-Ok-clause-error g c = λ p numeral near.
-    let b : ℤ = c.args.shown.now.bits in
-    let scanned = rw c.in-Ok.is at c.scan-scanned.ensures.reading.read in
-    let h : (c.args.shown.now.overflowed ≡ false → IsLessThanUlp c.args.radix p c.args.frac b) → Appends (IsMeasured c.args.measure c.args.radix p c.args.frac b c.args.shown.now.overflowed) 1380 c.args.out.now c.push_scanned.new.out
-    = c.push_scanned.ensures.error p (scanned p numeral) in
-    h near
-
-pub returns-in-Err-clause-error : goal.returns-in-Err-clause-error
-returns-in-Err-clause-error g c = λ p numeral near.
-    let h = rw c.in-Err.is at c.scan-scanned.ensures.reading.numeral in
-    absurd (false≢true (h.1 (p, numeral)))
+pub returns-clause-error : goal.returns-clause-error
+returns-clause-error g c = λ p numeral.
+    let b : ℤ = c.args.bits in
+    let fit : FitsSigned w128 b = search rules in
+    let error : Appends (IsErrorText Lines c.args.measure c.args.radix p c.args.frac b) 1380 c.args.out.now c.push_error.new.out = rw (to_z-of_z w128 b fit) at (c.push_error.ensures.error c.args.radix p (c.brief_decimal-numeral.ensures.numeral p numeral)) in
+    error

@@ -4,7 +4,7 @@ use Rattle.std.specs.Int.{w128, is_negative}
 use Rattle.std.proofs.lemmas.Int.{to_z-of_z}
 use Rattle.fixed_bits.specs.Numbers.{with_sign}
 use Rattle.fixed_show.proofs.BoundLemmas.{value_is}
-use Rattle.fixed_show.proofs.DifferenceLemmas.{error_decimal_from}
+use Rattle.fixed_show.proofs.DifferenceLemmas.{error_decimal}
 use Rattle.fixed_show.proofs.narrow.value_error.Goals as goal
 
 pub returns : goal.returns
@@ -29,5 +29,5 @@ returns c = record {
       let product : a ≡ unsigned_abs b * 5 ^ f * 10 ^ (kk - f) = c.in_ok-value.ensures.value ∙ ap (λ t. t * 10 ^ (kk - f)) fives in
       let value : a * 2 ^ f ≡ unsigned_abs b * 10 ^ kk = value_is (unsigned_abs b) f kk a above product in
       let difference : with_sign neg m ≡ with_sign (is_negative b) a -ℤ with_sign nn o = rw sign at c.difference-number.ensures.value in
-      error_decimal_from r p f b n k a o m kk nn neg numeral within value c.in_ok-other.ensures.value difference c.difference-number.ensures.sign;
+      error_decimal r p f b n k a o m kk nn neg numeral within value c.in_ok-other.ensures.value difference c.difference-number.ensures.sign;
 }

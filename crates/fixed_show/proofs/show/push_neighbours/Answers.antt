@@ -6,7 +6,8 @@ use Rattle.fixed_write.specs.Texts.{shortest_text}
 use Rattle.fixed_show.specs.Forms.{fact}
 use Rattle.fixed_show.specs.ShowBlock.{neighbours}
 use Rattle.fixed_show.specs.declared.form.Form.TheVariants.{Members}
-use Rattle.fixed_show.proofs.ShowLemmas.{four_blocks, neighbours_pushed}
+use Rattle.fixed_show.proofs.LineLemmas.{four_lines}
+use Rattle.fixed_show.proofs.ShowLemmas.{neighbours_pushed}
 use Rattle.fixed_show.proofs.show.push_neighbours.Goals as goal
 
 pub returns-in-Lines-clause-appended : goal.returns-in-Lines-clause-appended
@@ -30,5 +31,5 @@ returns-in-Members-clause-appended g c =
     let two : c.push_integer_fact.new.out ≡ c.push_shortest_fact.new.out ++ fact Members (codes "low_bits") (signed_decimal a) = rw (to_z-of_z w128 a low) at c.push_integer_fact.ensures.appended in
     let three : c.push_shortest_fact-in-Members.new.out ≡ c.push_integer_fact.new.out ++ fact Members (codes "high") (shortest_text b c.args.frac) = rw (to_z-of_z w128 b high) at c.push_shortest_fact-in-Members.ensures.appended in
     let four : c.push_integer_fact-in-Members.new.out ≡ c.push_shortest_fact-in-Members.new.out ++ fact Members (codes "high_bits") (signed_decimal b) = rw (to_z-of_z w128 b high) at c.push_integer_fact-in-Members.ensures.appended in
-    four_blocks c.args.out.now c.push_shortest_fact.new.out c.push_integer_fact.new.out c.push_shortest_fact-in-Members.new.out c.push_integer_fact-in-Members.new.out (fact Members (codes "low") (shortest_text a c.args.frac)) (fact Members (codes "low_bits") (signed_decimal a)) (fact Members (codes "high") (shortest_text b c.args.frac)) (fact Members (codes "high_bits") (signed_decimal b)) one two three four
+    four_lines c.args.out.now c.push_shortest_fact.new.out c.push_integer_fact.new.out c.push_shortest_fact-in-Members.new.out c.push_integer_fact-in-Members.new.out (fact Members (codes "low") (shortest_text a c.args.frac)) (fact Members (codes "low_bits") (signed_decimal a)) (fact Members (codes "high") (shortest_text b c.args.frac)) (fact Members (codes "high_bits") (signed_decimal b)) one two three four
     ∙ ap (λ t. c.args.out.now ++ neighbours t (shortest_text a c.args.frac) a (shortest_text b c.args.frac) b) (sym c.in-Members.is)

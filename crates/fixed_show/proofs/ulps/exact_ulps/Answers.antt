@@ -3,9 +3,8 @@ use Rattle.std.specs.Prelude.{unsigned_abs}
 use Rattle.std.specs.Int.{w128, is_negative}
 use Rattle.std.proofs.lemmas.Int.{to_z-of_z}
 use Rattle.fixed_bits.specs.Numbers.{with_sign}
-use Rattle.fixed_show.proofs.BoundLemmas.{both_within, moved_within, value_within}
+use Rattle.fixed_show.proofs.BoundLemmas.{both_within, moved_within, ten_times, two_times, value_within}
 use Rattle.fixed_show.proofs.DifferenceLemmas.{ulps_decimal}
-use Rattle.fixed_show.proofs.UlpsLemmas.{ten_times, two_times}
 use Rattle.fixed_show.proofs.ulps.exact_ulps.Goals as goal
 
 pub scale-requires-clause-room : goal.scale-requires-clause-room
@@ -31,7 +30,7 @@ signed_difference-number-requires c =
     rw (value, other) (both_within (m * 10 ^ k) (n * 2 ^ c.args.frac) (ten_times m k word c.requires.places) (two_times n c.args.frac c.requires.small c.requires.frac))
 
 pub returns-clause-ulps : goal.returns-clause-ulps
-returns-clause-ulps c = λ r p whole fraction shift scanned same.
+returns-clause-ulps c = λ r p numeral.
     let b : ℤ = c.args.bits in
     let fit : FitsSigned w128 b = search rules in
     let n : ℕ = c.args.numeral.now.number in
@@ -43,5 +42,5 @@ returns-clause-ulps c = λ r p whole fraction shift scanned same.
     let first : c.scale.new.number ≡ c.magnitude_of.result * 10 ^ k = rw c.natural_of-value.ensures at c.scale.ensures in
     let value : c.scale.new.number ≡ unsigned_abs b * 10 ^ k = first ∙ ap (λ (t : ℕ). t * 10 ^ k) magnitude in
     let other : c.scale-2.new.number ≡ n * 2 ^ c.args.frac = rw c.same-other.ensures at c.scale-2.ensures in
-    let difference : with_sign neg m ≡ with_sign (is_negative b) c.scale.new.number -ℤ with_sign c.args.is_negative c.scale-2.new.number = rw sign at c.signed_difference-number.ensures.value in
-    ulps_decimal r p c.args.frac b whole fraction shift n k c.scale.new.number c.scale-2.new.number m c.args.is_negative neg scanned same value other difference c.signed_difference-number.ensures.sign
+    let difference : with_sign neg m ≡ with_sign (is_negative b) c.scale.new.number -ℤ with_sign c.args.numeral.now.is_negative c.scale-2.new.number = rw sign at c.signed_difference-number.ensures.value in
+    ulps_decimal r p c.args.frac b n k c.scale.new.number c.scale-2.new.number m c.args.numeral.now.is_negative neg numeral value other difference c.signed_difference-number.ensures.sign
