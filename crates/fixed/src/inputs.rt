@@ -17,9 +17,9 @@ use command_line::given::{Asked, Given};
 use command_line::report::{Report, push_words, report_end};
 use fixed_amounts::AmountSettings;
 use fixed_command::{
-    AmountLines, ColumnConversion, ConvertRule, FieldReport, Limit, MAX_TALLY, Place, RefusedLine,
-    Spelling, Tally, Task, Watch, bytes_within, convert_column, error_report, greater_end,
-    place_name, run_task, tally_text, without_return,
+    AmountLines, ColumnConversion, ConvertRule, CountedRule, FieldReport, Limit, MAX_TALLY, Place,
+    Refusals, RefusedLine, Spelling, Tally, Task, bytes_within, convert_column, error_report,
+    greater_end, place_name, run_task, tally_text, without_return,
 };
 use fixed_io::{StdSink, StdSource};
 use fixed_numeral::{Radix, scan};
@@ -29,7 +29,7 @@ use fixed_steps::Steps;
 use fixed_words::{WordRefusal, WordRule, convert_words};
 use line_engine::Status;
 use std::fs::File;
-use std::io::{Error, ErrorKind, Read};
+use std::io::{self, Error, ErrorKind, Read};
 use std::sync::ledger::Ledger;
 
 /// How many characters of a refused line a report shows.
@@ -107,10 +107,9 @@ fn report_refused<L: Ledger>(
     rt: &HostRuntime,
     task: &Task<'_>,
     file: Option<&str>,
-    watch: &Watch,
+    refusals: &Refusals,
     steps: &mut Steps<L>,
 ) {
-    let refusals = watch.refusals();
     if let Some(line) = &refusals.first {
         let (text, cause) = (line.text.as_bytes(), line.cause.as_bytes());
         let mut report = refusal_report(file, refusals.count, line.number, text, cause);
@@ -134,7 +133,7 @@ fn push_line_explanation<L: Ledger>(
             let numeral = (without_return(text), 0);
             push_explanation(report, rule, convert::OFFERS, numeral, cause, steps);
         }
-        Task::LaidOut(laid) | Task::Reported(laid) => {
+        Task::LaidOut(laid) | Task::Reported(CountedRule { laid }) => {
             let numeral = (
                 laid.layout.numeral_of(text),
                 laid.layout.blanks_before(text),
@@ -240,34 +239,23 @@ fn run_task_on<R: Read + Drop, L: Ledger>(
     output: &mut Output,
     steps: &mut Steps<L>,
 ) -> Status {
-    let watch = Watch::new();
     let failure = Failure::new(None);
     let mut source = StdSource::new(Unmarked::new(reader));
     let mut sink = StdSink::new(Writer {
         writer: output,
         failure: &failure,
     });
-    let status = run_task(
-        rt.alloc(),
-        limit,
-        task,
-        &watch,
-        &mut source,
-        &mut sink,
-        steps,
-    );
+    let end = run_task(rt.alloc(), limit, task, &mut source, &mut sink, steps);
     // After a failed write, not all counted answers were written.
-    if !is_last(status) {
-        report_refused(rt, task, file, &watch, steps);
-        if matches!(task, Task::Reported(_)) {
-            report_tally(rt, file, &watch.tally(), Place::Line);
-            if let Some(errors) = &watch.errors() {
-                report_greatest(rt, file, errors, place_name(Place::Line).as_bytes(), steps);
-            }
+    if !is_last(end.status) {
+        report_refused(rt, task, file, &end.refusals, steps);
+        if let Some(errors) = &end.errors {
+            report_tally(rt, file, &end.tally, Place::Line);
+            report_greatest(rt, file, errors, place_name(Place::Line).as_bytes(), steps);
         }
     }
-    report_end(rt, file, status, sink.lines(), &failure);
-    status
+    report_end(rt, file, end.status, sink.lines(), &failure);
+    end.status
 }
 
 /// Returns a report if it is requested.
@@ -470,6 +458,13 @@ fn refuse_input<L: Ledger>(
     refuse_with(rt, file, error, &more)
 }
 
+/// Opens a file. A folder is refused, as a read of no bytes tells.
+fn open_file(rt: &HostRuntime, file: &str) -> io::Result<File> {
+    let mut reader = File::open(rt, file)?;
+    reader.read(&mut [])?;
+    Ok(reader)
+}
+
 /// Runs a job over a file, or over standard input if its name is `-`.
 fn run_file<L: Ledger>(
     rt: &HostRuntime,
@@ -483,7 +478,7 @@ fn run_file<L: Ledger>(
     if file == "-" {
         return run_reader(rt, job, limit, None, rt.stdin(), output, steps);
     }
-    match File::open(rt, file) {
+    match open_file(rt, file) {
         Ok(reader) => run_reader(rt, job, limit, Some(file), reader, output, steps),
         Err(error) => refuse_input(rt, format, file, &error, steps),
     }

@@ -6,6 +6,7 @@ ghost use Rattle.fixed.specs.Errors.{AreErrorsAsked, IsMeasureAsked, measure_tex
 ghost use Rattle.fixed_command.specs.declared.error_lines.ErrorSettings.{ErrorSettings};
 ghost use Rattle.fixed_show.specs.declared.measure.Measure.{Measure};
 
+use crate::commands::amounts::refuse_decimal_target;
 use crate::options::{
     FROM, KEEP_WORDS, PLACES, PLACES_MODE, PRINT_OR_ERROR, REFUSED, REPORT, SEPARATORS,
     TARGET_MODE, WORDS,
@@ -61,6 +62,7 @@ pub fn error_settings<'a>(given: &Given<'_, 'a>, measure: Measure) -> Asked<'a, 
 
 /// Refuses the operands and options that have no meaning for errors.
 pub fn refuse_beside_errors<'a>(given: &Given<'_, 'a>) -> Asked<'a, ()> {
+    refuse_decimal_target(given, 1)?;
     match given.keyword(1) {
         Some(word) if is_like_format(word) => {
             return Err(Refusal::Word(

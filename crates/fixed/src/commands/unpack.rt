@@ -238,6 +238,7 @@ fn written_of<'a>(given: &Given<'_, 'a>) -> Asked<'a, (Written, usize)> {
             Err(refusal) => Err(refusal),
         };
     }
+    amounts::refuse_decimal_target(given, 1)?;
     let (rule, files) = conversion(given, 0)?;
     let endian = endian_of(given)?;
     let written = match written_floats_of(given)? {
