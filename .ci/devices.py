@@ -1,9 +1,10 @@
 #!/usr/bin/env python3
-"""Runs the programs over devices that fail in mid-stream, and hands them a byte at a time.
+"""Runs the programs over devices that fail in mid-stream, and hands them a byte at a time. Runs `fixed` with each option of
+each command over outputs that are full or closed, inputs that cannot be read, and files that cannot be made.
 
     devices.py [--built FOLDER]
 
-Devices that fail at once are in cases/files.txt.
+More devices that fail at once are in cases/files.txt and cases/output.txt.
 """
 import os
 import resource
@@ -15,9 +16,10 @@ import sys
 import tempfile
 
 TOP = os.path.dirname(os.path.dirname(os.path.abspath(__file__)))
-sys.path.insert(0, f"{TOP}/oracle")
-
+sys.path[:0] = [f"{TOP}/oracle", f"{TOP}/.ci"]
+from command_lines import right_line  # noqa: E402
 from harness import SECONDS, Tally, built_option, program, run  # noqa: E402
+from options import NO_INPUT, pages  # noqa: E402
 
 # Words and an input whose answers are longer than a pipe holds.
 LONG = {
@@ -28,6 +30,12 @@ LONG = {
     "columns_tool": ([], b"".join(b"%d.5 I32F32\n" % i for i in range(60_000))),
 }
 FULL = b"a write failed"
+# An input of each command of `fixed` that has two answers, or one.
+LINES = {
+    "column": b"2,a\n3,b\n", "json": b'{"a":2}\n{"a":3}\n', "bits": b"0x02\n0x03\n", "lines": b"10 I4F4 I4F4 checked 2\n10 I4F4 I4F4 checked 3\n",
+    "enclose": b"10 I4F4 2\n10 I4F4 3\n", "unpack": b"\x02\x03", "repack": b"\x10\x20", "constants": b"A = 2 I4F4\nB = 3 I4F4\n",
+    "sort": b"2 I4F4\n3 I4F4\n",
+}
 
 
 def on_disk_of(most):
@@ -38,10 +46,10 @@ def on_disk_of(most):
     return limit
 
 
-def on_full_disk(path, words, given, most):
+def on_full_disk(path, words, given, most, **how):
     """A run whose output is a file of at most this many bytes, and what the file has then."""
     with tempfile.TemporaryFile() as disk:
-        ran = run(path, words, given, stdout=disk, preexec_fn=on_disk_of(most))
+        ran = run(path, words, given, stdout=disk, preexec_fn=on_disk_of(most), **how)
         disk.seek(0)
         return ran, disk.read()
 
@@ -131,6 +139,70 @@ def of_fixed(tally, path):
     one_by_one(tally, path)
 
 
+# ---- each option of each command
+def input_of(words):
+    """An input that the command of these words answers."""
+    if "--from=f32" in words:
+        return struct.pack("<2f", 2, 3)
+    return b"2\n3\n" if any(it.startswith("--numerals") for it in words) else LINES.get(words[0], b"2\n3\n")
+
+
+def with_input(words, name):
+    """The words with an input."""
+    return [*words, "--file", name] if words[0] in ("bits", "show") else [*words, name]
+
+
+def is_failure(ran, status, named, *causes):
+    """Whether a run ended with this status, and one line of standard error names this and one of these causes, beside a report."""
+    told = [it for it in ran.stderr.splitlines() if it.startswith(b"fixed: " + named) and any(cause in it for cause in causes)]
+    return ran.returncode == status and len(told) == 1
+
+
+def full_outputs(tally, path, words, folder):
+    """Standard output on a pipe that nobody reads, and on a disk that is full after each of some counts of bytes."""
+    whole = run(path, words, cwd=folder)
+    tally.check(whole.returncode < 2 and whole.stdout != b"", f"{words}: {whole}")
+    read, write = os.pipe()
+    os.close(read)
+    ran = run(path, words, cwd=folder, stdout=write)
+    os.close(write)
+    tally.check(ran.returncode == 4 and b"write" not in ran.stderr, f"{words}, a closed pipe: {ran}")
+    for most in sorted({0, 1, len(whole.stdout) // 2, len(whole.stdout) - 1}):
+        ran, got = on_full_disk(path, words, b"", most, cwd=folder)
+        is_right = is_failure(ran, 4, b"", FULL + b": File too large") and got == whole.stdout[:most]
+        tally.check(is_right, f"{words}, a disk of {most} bytes: {ran}, {got!r} arrived")
+
+
+def unread_inputs(tally, path, words, folder):
+    """A missing input and a folder: no file is made. The other input is answered, but by `constants`, whose inputs are one."""
+    for name, causes in (("none", (b"No such file or directory",)), (".", (b"Is a directory",))):
+        ran = run(path, [*with_input(words, name), "--output=made"], cwd=folder)
+        is_right = is_failure(ran, 3, b"%s: " % name.encode(), *causes) and ran.stdout == b"" and os.listdir(folder) == ["input"]
+        tally.check(is_right, f"{words} {name}: {ran}, {os.listdir(folder)}")
+    if words[0] not in ("bits", "show"):
+        wanted = b"" if words[0] == "constants" else run(path, [*words, "input"], cwd=folder).stdout
+        ran = run(path, [*words, "none", "input"], cwd=folder)
+        tally.same((ran.returncode, ran.stdout), (3, wanted), f"{words} none input")
+
+
+def of_options(tally, path):
+    """Each command with each of its options."""
+    for page, row in ((page, row) for page in pages() for row in page.options):
+        words = right_line(page, row)
+        if words is None:
+            continue
+        with tempfile.TemporaryDirectory() as folder:
+            with open(f"{folder}/input", "wb") as file:
+                file.write(input_of(words))
+            with_file = words if page.name in NO_INPUT else with_input(words, "input")
+            if row.name != "output":
+                full_outputs(tally, path, with_file, folder)
+                ran = run(path, [*with_file, "--output=none/made"], cwd=folder)
+                tally.check(is_failure(ran, 4, b"none/made: ", b"No such file or directory"), f"{with_file} --output=none/made: {ran}")
+                if page.name not in NO_INPUT:
+                    unread_inputs(tally, path, words, folder)
+
+
 def main():
     built, tally = built_option(__doc__), Tally()
     for name, (words, given) in LONG.items():
@@ -144,6 +216,7 @@ def main():
         broken_pipe(tally, name, path, words, given, whole)
         if name == "fixed":
             of_fixed(tally, path)
+            of_options(tally, path)
     return tally.end("runs over devices that fail")
 
 
