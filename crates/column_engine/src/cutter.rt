@@ -1,6 +1,6 @@
 //! Cuts the chunks of a text into records and answers them. A record may span chunks.
 
-ghost use Rattle.std.specs.Prelude.{◌≡◌, ◌≤◌, ◌<◌, ◌+◌, ◌++◌, [], List, ℕ, IfErr, OnOk, OnErr, length};
+ghost use Rattle.std.specs.Prelude.{◌≡◌, ◌≤◌, ◌<◌, ◌+◌, ◌++◌, [], IfErr, OnOk, length};
 ghost use Rattle.column_engine.specs.Feeding.{FailsFeed, FeedsRows, IsStanding};
 ghost use Rattle.column_engine.specs.Steps.{PassesRow, RisesOnly, SameCounts, StopsRow, state_of};
 ghost use Rattle.column_engine.specs.Limits.{longest_record};

@@ -1,6 +1,6 @@
 //! Gathers output before it is written.
 
-ghost use Rattle.std.specs.Prelude.{◌≡◌, ◌≤◌, List, ℕ, [], OnOk, OnErr, length};
+ghost use Rattle.std.specs.Prelude.{◌≡◌, ◌≤◌, List, ℕ, [], OnOk, OnErr};
 ghost use Rattle.std.specs.Io.KnownBytes.{Appends};
 ghost use Rattle.line_engine.specs.Failures.{FailsOnlyCounted};
 ghost use Rattle.line_engine.specs.Inner.Progress.{Flushes};

@@ -2,9 +2,8 @@
 
 ghost use Rattle.std.specs.Prelude.{◌≡◌, ◌≢◌, ◌⊎◌, ◌≤◌, ◌<◌, ◌+◌, ◌++◌, [], List, ℕ, Option, IfOk, IfErr, OnOk};
 ghost use Rattle.std.specs.Prelude.{length, map};
-ghost use Rattle.std.specs.Io.KnownBytes.{Consumes, IsAtEnd};
+ghost use Rattle.std.specs.Io.KnownBytes.{IsAtEnd};
 ghost use Rattle.line_engine.specs.Inner.Progress.{Flushes};
-ghost use Rattle.column_engine.specs.Answers.{State};
 ghost use Rattle.column_engine.specs.Feeding.{FeedsRows, IsLeft, IsStanding};
 ghost use Rattle.column_engine.specs.Run.{HasFailures, HasRun, RunsOn, RunsText, StopsText, Writes, counts_of};
 ghost use Rattle.column_engine.specs.Run.{first_range, first_state};

@@ -1,7 +1,7 @@
 //! The arguments of a command, and why they may be refused.
 
 ghost use Rattle.std.specs.Prelude.{◌≡◌, ◌++◌, IfErr, IfOk, None, OnOk, Some, drop, map, option_map, string_bytes};
-ghost use Rattle.command_line.specs.Words.{IsGiven, found_at, found_words, has_flag, keyword_at, value_of, word_at};
+ghost use Rattle.command_line.specs.Words.{IsGiven, found_at, has_flag, keyword_at, value_of, word_at};
 
 use crate::page::{Operand, Row};
 use clap::ArgMatches;

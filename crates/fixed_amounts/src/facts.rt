@@ -1,7 +1,7 @@
 //! The facts of an amount, of a count of units, and of a decimal format, in lines for people or as members of a JSON
 //! object.
 
-ghost use Rattle.std.specs.Prelude.{◌≡◌, ◌+◌, ◌*◌, ◌≤◌, ◌++◌, codes, length, pos};
+ghost use Rattle.std.specs.Prelude.{◌≡◌, ◌+◌, ◌*◌, ◌≤◌, ◌++◌, codes, length};
 ghost use Rattle.fixed_amounts.specs.Facts.{AreFacts, IsAmountBlock, IsAmountObject, format_facts, values};
 ghost use Rattle.fixed_amounts.specs.Names.{name_text};
 ghost use Rattle.fixed_amounts.specs.Reply.{unit_word};

@@ -4,7 +4,6 @@ ghost use Rattle.std.specs.Prelude.{◌≡◌, ◌+◌, ◌*◌, ◌≤◌, IfEr
 ghost use Rattle.fixed_amounts.specs.Reading.{IsAmount, IsNoAmount, IsReadAs, IsUnread, words};
 ghost use Rattle.fixed_amounts.specs.Reply.{fault_text};
 ghost use Rattle.fixed_amounts.specs.declared.settings.AmountSpelling.{AmountSpelling as SpellingOf};
-ghost use Rattle.fixed_bits.specs.Ranges.{IsInRange};
 ghost use Rattle.fixed_numeral.specs.declared.radix.Radix.{Radix as RadixOf};
 ghost use Rattle.fixed_respell.specs.Refusal.{refusal_message};
 ghost use Rattle.fixed_show.specs.WordText.{HasWordFault, IsWord};

@@ -1,10 +1,10 @@
 //! Formats chosen at run time, and what happens to a number that is out of range.
 
-ghost use Rattle.std.specs.Prelude.{◌≡◌, ◌↔◌, ◌≤◌, ◌<◌, ◌^◌, ◌-◌, ◌*◌, ◌/◌, ◌%◌, pos, false, IsTrue, IsSome, IsNone};
+ghost use Rattle.std.specs.Prelude.{◌≡◌, ◌↔◌, ◌≤◌, ◌<◌, ◌^◌, ◌-◌, ◌*◌, ◌/◌, ◌%◌, false, IsTrue, IsSome, IsNone};
 ghost use Rattle.std.specs.Prelude.{IfSome, Option};
 ghost use Rattle.fixed_bits.specs.Ranges.{IsInRange, IsOutOfRange, IsWide, lowest, greatest};
 ghost use Rattle.fixed_bits.specs.Formats.{IsFormat, IsTypeFormat, whole_length};
-ghost use Rattle.fixed_bits.specs.Images.{IsImage, IsWrapped};
+ghost use Rattle.fixed_bits.specs.Images.{IsImage};
 
 use crate::masks::mask;
 use crate::number::{Number, greatest_magnitude, signed_number};

@@ -3,13 +3,13 @@
 //! Cells of equal value are ordered by width, sign rule and fraction length and not by `rank`. So the order covers all
 //! records of these parts, and its laws need no premise.
 
-ghost use Rattle.std.specs.Prelude.{◌≡◌, ◌↔◌, ◌≤◌, ℤ, IsSome, IfSome};
+ghost use Rattle.std.specs.Prelude.{◌≡◌, ◌↔◌, ◌≤◌, IsSome, IfSome};
 ghost use Rattle.std.proofs.Common.{rules};
 ghost use Rattle.std.specs.Bool.{one_answer};
 ghost use Rattle.std.specs.Cmp.{po};
 ghost use Rattle.std.specs.Cmp.Rules.{comparing};
 ghost use Rattle.std.specs.Ordering.{as_partial_cmp};
-ghost use Rattle.fixed_bits.specs.Ranges.{IsInRange, IsWide};
+ghost use Rattle.fixed_bits.specs.Ranges.{IsWide};
 ghost use Rattle.fixed_columns.specs.Cells.{CellParts, IsCell, cell_of, format_order};
 
 use fixed_bits::{Format, Inner};

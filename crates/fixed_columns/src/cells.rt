@@ -2,7 +2,7 @@
 //!
 //! A list in order is determined by how often it holds each cell, so a correct sort has one result.
 
-ghost use Rattle.std.specs.Prelude.{◌≡◌, ◌<◌, ℕ, List, length, slice_get, IfOk, IfErr};
+ghost use Rattle.std.specs.Prelude.{◌≡◌, ◌<◌, List, length, slice_get, IfOk, IfErr};
 ghost use Rattle.fixed_columns.specs.Cells.{CellParts, HoldsAsOften, IsInOrder};
 ghost use Rattle.fixed_columns.specs.Rows.{IsCellsOf, IsErrorOf};
 

@@ -1,7 +1,6 @@
 //! The arguments of the program.
 
 ghost use Rattle.std.specs.Prelude.{◌≡◌, ◌≤◌, ℕ, MatchOption, IfSome, decimal};
-ghost use Rattle.std.specs.String.{string_bytes};
 ghost use Rattle.fixed_columns.specs.Program.{AsksWithin, IsUsageFault};
 
 use itoa::Buffer;

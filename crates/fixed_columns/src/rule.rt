@@ -1,6 +1,6 @@
 //! The rule of the program: it answers a text with the column of its cells in order.
 
-ghost use Rattle.std.specs.Prelude.{◌≡◌, ◌++◌, IfOk, OnOk};
+ghost use Rattle.std.specs.Prelude.{◌≡◌, ◌++◌, IfOk};
 ghost use Rattle.fixed_columns.specs.Answer.{IsWholeAnswer, column_style, fault_line, fault_message};
 ghost use Rattle.fixed_columns.specs.Lemmas.ColumnsLemmas.{answer_one};
 

@@ -1,6 +1,6 @@
 //! Writes constants in their one canonical form.
 
-ghost use Rattle.std.specs.Prelude.{◌≡◌, ◌≤◌, ◌+◌, ◌++◌, ◌<◌, ℤ, pos, length, unsigned_abs, OnOk, IfOk};
+ghost use Rattle.std.specs.Prelude.{◌≡◌, ◌≤◌, ◌+◌, ◌++◌, ◌<◌, pos, length, unsigned_abs, OnOk, IfOk};
 ghost use Rattle.std.specs.Fmt.{sign_text};
 ghost use Rattle.std.specs.Int.{is_negative};
 ghost use Rattle.fixed_bits.specs.Ranges.{IsWide};

@@ -1,26 +1,9 @@
 //! Reads a constants file.
 
-ghost use Rattle.std.specs.Prelude.{
-  ◌≡◌,
-  ◌<◌,
-  ◌+◌,
-  ℕ,
-  List,
-  [],
-  ◌∷◌,
-  ◌++◌,
-  Ok,
-  Err,
-  length,
-  IfOk,
-  IfErr,
-  OnOk,
-  Some,
-  bytes_eq,
-};
+ghost use Rattle.std.specs.Prelude.{◌≡◌, ◌<◌, ◌+◌, ℕ, List, [], ◌∷◌, ◌++◌, Ok, Err, IfOk, IfErr, OnOk, Some, bytes_eq};
 ghost use Rattle.std.specs.Map.{update};
 ghost use Rattle.fixed_bits.specs.Ranges.{IsWide};
-ghost use Rattle.fixed_constants.specs.Constants.{IsConstantsOf, IsErrorOf, IsPassedOver, Says};
+ghost use Rattle.fixed_constants.specs.Constants.{IsConstantsOf, IsErrorOf, IsPassedOver};
 ghost use Rattle.fixed_constants.specs.Inner.Known.{AddsConstant, AddsLine, AtLine, IsLineError, Knows, line_of};
 
 use crate::constant::{Constant, Constants};

@@ -1,22 +1,6 @@
 //! Reads the declaration of a line.
 
-ghost use Rattle.std.specs.Prelude.{
-  ◌≡◌,
-  ◌↔◌,
-  ◌≤◌,
-  ◌<◌,
-  ℕ,
-  List,
-  [],
-  ◌∷◌,
-  length,
-  IsTrue,
-  Err,
-  IfOk,
-  IfErr,
-  MatchOption,
-  MatchResult,
-};
+ghost use Rattle.std.specs.Prelude.{◌≡◌, ◌↔◌, ◌≤◌, ◌<◌, ℕ, List, [], ◌∷◌, IsTrue, Err, IfOk, IfErr, MatchOption};
 ghost use Rattle.fixed_bits.specs.Ranges.{IsWide};
 ghost use Rattle.fixed_respell.specs.LineWords.{HasWords, space};
 ghost use Rattle.fixed_respell.specs.Split.{count_of};

@@ -1,9 +1,8 @@
 //! The rule of the program with all its forms.
 
 ghost use Rattle.std.specs.Prelude.{◌≡◌, ℕ, IfOk, IfErr};
-ghost use Rattle.fixed_constants.specs.Answer.{fault_line};
-ghost use Rattle.fixed_constants.specs.Constants.{IsConstantsOf, IsFaultOf};
-ghost use Rattle.fixed_constants.specs.Forms.{IsFormAnswer, IsFormError, IsFormFault, IsReservedOn, IsSourceAnswer};
+ghost use Rattle.fixed_constants.specs.Constants.{IsConstantsOf};
+ghost use Rattle.fixed_constants.specs.Forms.{IsFormAnswer, IsFormError, IsReservedOn, IsSourceAnswer};
 ghost use Rattle.fixed_constants.specs.Lemmas.FormLemmas.{form_answer_one};
 
 use crate::constant::Constants;

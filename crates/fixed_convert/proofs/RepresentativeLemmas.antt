@@ -5,7 +5,7 @@ use Rattle.std.proofs.lemmas.Int.{ints}
 use Rattle.std.proofs.lemmas.Nat.{pow-add}
 use Rattle.std.proofs.Math.Pow.{pow_mono}
 use Rattle.fixed_bits.specs.Ranges.{IsInRange, IsOutOfRange, IsWide, lowest, greatest}
-use Rattle.fixed_bits.specs.Images.{IsImage, IsInRangeBy, DiffersByMultiple, lowest_by}
+use Rattle.fixed_bits.specs.Images.{IsImage, DiffersByMultiple, lowest_by}
 use Rattle.fixed_bits.specs.declared.format.Policy.{Policy}
 use Rattle.fixed_bits.specs.declared.format.Policy.TheVariants.{Checked, Saturating, Wrapping, Symmetric}
 use Rattle.fixed_bits.proofs.Public.{in_range_of, lowest_left_wide, near_joined, range_decided, ends_wide}

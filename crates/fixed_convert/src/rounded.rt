@@ -1,6 +1,6 @@
 //! Bits moved to another fraction length in a mode.
 
-ghost use Rattle.std.specs.Prelude.{◌≡◌, ◌<◌, ◌≤◌, ◌*◌, ◌+◌, ◌^◌, ℕ, IfSome, MatchOption};
+ghost use Rattle.std.specs.Prelude.{◌≡◌, ◌<◌, ◌≤◌, ◌*◌, ◌+◌, ◌^◌, IfSome, MatchOption};
 ghost use Rattle.fixed_bits.specs.Ranges.{IsInRange, IsWide};
 ghost use Rattle.fixed_bits.specs.Rounded.{IsRounded};
 ghost use Rattle.fixed_convert.specs.Rounded.{IsMovedIn, IsNotReformatted, IsReformatted};

@@ -1,12 +1,11 @@
 //! Compares the errors of two numerals.
 
 ghost use Rattle.std.specs.Prelude.{◌≡◌, ◌<◌, ◌≤◌, ◌+◌, ◌*◌, true, false, ◌^◌, IfSome, length};
-ghost use Rattle.std.specs.Int.Digits.{AllBelowBase};
 ghost use Rattle.fixed_numeral.specs.Numeral.{IsNumeral, base};
 ghost use Rattle.fixed_numeral.specs.Scanned.{exponent_unit};
 ghost use Rattle.fixed_error.specs.ErrorSize.{HasErrorAbove, HasErrorWithin, HasGreaterError, HasNoGreaterError};
 ghost use Rattle.fixed_error.specs.ErrorSize.{IsReadWithin};
-ghost use Rattle.fixed_error.specs.Inner.Gap.{IsGap, greater_part, less_part, sum_of};
+ghost use Rattle.fixed_error.specs.Inner.Gap.{greater_part, less_part, sum_of};
 ghost use Rattle.fixed_error.specs.Inner.Rest.{IsNear};
 
 use crate::gap::{Gap, gap_of, power_of_two};

@@ -1,5 +1,5 @@
 -- Numbers that every policy leaves as they are.
-use Rattle.std.proofs.Common.{◌≡◌, ℕ, ◌+◌, ◌-◌, ◌*◌, ◌<◌, ◌≤◌, ◌^◌, Bool, true, false, pos, refl, sym, ap, subst, arith, ◌∙◌}
+use Rattle.std.proofs.Common.{◌≡◌, ℕ, ◌+◌, ◌-◌, ◌*◌, ◌<◌, ◌≤◌, ◌^◌, Bool, true, false, refl, ap, arith, ◌∙◌}
 use Rattle.std.proofs.Math.Nat.{pow-le-pow_right}
 use Rattle.std.proofs.lemmas.Bool.{false≢true}
 use Rattle.std.proofs.lemmas.Int.{ints}
@@ -17,14 +17,6 @@ use Rattle.fixed_float.specs.Kept.{IsGreatestKept, IsKept}
 -- 2^n is two halves of 2^(n - 1)
 twice : (n : ℕ) → IsWidth n → 2 ^ n ≡ 2 * 2 ^ (n - 1)
 twice n w = let e : n ≡ 1 + (n - 1) = omega (arith, w.some) in ap (λ x. 2 ^ x) e ∙ pow-add 2 1 (n - 1)
-
-pub greatest_signed : (s : Bool) (n half : ℕ) → s ≡ true → half ≡ 2 ^ (n - 1) → half - 1 ≡ greatest_magnitude s false n
-greatest_signed true n half t e = ap (λ x. x - 1) e
-greatest_signed false n half t e = absurd (false≢true t)
-
-pub greatest_unsigned : (s : Bool) (n half : ℕ) → IsWidth n → s ≡ false → half ≡ 2 ^ (n - 1) → half - 1 + half ≡ greatest_magnitude s false n
-greatest_unsigned false n half w t e = omega (arith, twice n w, e, pow_pos (n - 1))
-greatest_unsigned true n half w t e = absurd (false≢true (sym t))
 
 -- ---- a number in the range
 pub below_half : (s : Bool) (n m : ℕ) → IsWidth n → s ≡ true → m ≤ greatest_magnitude s false n → m < 2 ^ 63

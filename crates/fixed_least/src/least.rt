@@ -1,24 +1,7 @@
 //! The least format that holds a list exactly, and for each lesser format a numeral that it does not hold.
 
-ghost use Rattle.std.specs.Prelude.{
-  ◌≡◌,
-  ◌≤◌,
-  ◌<◌,
-  ◌+◌,
-  ◌++◌,
-  ◌↔◌,
-  IsTrue,
-  ℕ,
-  List,
-  length,
-  false,
-  get_or,
-  replicate,
-  decimal,
-  IfOk,
-  IfErr,
-  MatchOption,
-};
+ghost use Rattle.std.specs.Prelude.{◌≡◌, ◌≤◌, ◌<◌, ◌+◌, ◌++◌, ◌↔◌, ℕ, List, length, false, get_or, replicate};
+ghost use Rattle.std.specs.Prelude.{IfOk, IfErr, MatchOption};
 ghost use Rattle.fixed_bits.specs.Formats.{FormatParts, IsTypeFormat};
 ghost use Rattle.fixed_bits.specs.Order.{rank};
 ghost use Rattle.line_engine.specs.Lines.{lines};

@@ -6,20 +6,10 @@
 //! value if the first and the last do. Two arrays keep the ends of the eight intervals, and a value is only tried
 //! there.
 
-ghost use Rattle.std.specs.Prelude.{◌≡◌, ◌⊎◌, ◌↔◌, ◌≤◌, ◌<◌, ◌+◌, ◌-◌, ◌*◌, ℕ, IsTrue, true, false, get_or};
+ghost use Rattle.std.specs.Prelude.{◌≡◌, ◌⊎◌, ◌↔◌, ◌≤◌, ◌<◌, ◌+◌, ◌-◌, ◌*◌, ℕ, get_or};
 ghost use Rattle.fixed_bits.specs.Formats.{IsTypeFormat};
-ghost use Rattle.fixed_least.specs.Inner.Slots.{
-  AreLiving,
-  AreNoted,
-  IsLiving,
-  IsNoted,
-  slot,
-  slot_of,
-  kind_format,
-  kind_of,
-  kind_signed,
-  kind_width,
-};
+ghost use Rattle.fixed_least.specs.Inner.Slots.{AreLiving, AreNoted, IsLiving, IsNoted, slot, slot_of};
+ghost use Rattle.fixed_least.specs.Inner.Slots.{kind_format, kind_width};
 ghost use Rattle.fixed_least.specs.Inner.Valued.{HasValue};
 
 use crate::exact::Exact;

@@ -4,14 +4,13 @@
 //! tested together: the first byte that is not a digit ends the digits, and whole words that reach back over the
 //! numeral's start give their number. No branch depends on the number of digits or on which of them are letters.
 
-ghost use Rattle.std.specs.Prelude.{◌≡◌, ◌+◌, ◌-◌, ◌<◌, ◌≤◌, ℕ, IfSome, drop, length, slice_index, take, pos, neg_ℤ};
+ghost use Rattle.std.specs.Prelude.{◌≡◌, ◌+◌, ◌-◌, ◌<◌, ◌≤◌, ℕ, IfSome, drop, length, slice_index, take};
 ghost use Rattle.std.specs.Prelude.{if◌then◌else◌};
 ghost use Rattle.std.specs.Int.{bit_at};
 ghost use Rattle.std.specs.Str.Parse.{AllDigits};
 ghost use Rattle.fixed_numeral.specs.Numeral.{base};
 ghost use Rattle.fixed_numeral.specs.PartNumbers.{HasFewDigits};
-ghost use Rattle.fixed_numeral.specs.Inner.Scan.{max_magnitude};
-ghost use Rattle.fixed_numeral.specs.Inner.Segments.{IsExponentAt, IsMantissaAt, IsShortAt, HasMarks};
+ghost use Rattle.fixed_numeral.specs.Inner.Segments.{IsMantissaAt, IsShortAt, HasMarks};
 
 use crate::exponent::{Power, power_at};
 use crate::radix::Radix;

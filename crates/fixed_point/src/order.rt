@@ -1,6 +1,6 @@
 //! The order of a number and a number of any type, by their exact values. Fraction lengths may be above the widths.
 
-ghost use Rattle.std.specs.Prelude.{◌≡◌, ◌↔◌, ◌<ℤ◌, ◌≤ℤ◌, ◌*ℤ◌, ◌^◌, pos, IsTrue};
+ghost use Rattle.std.specs.Prelude.{◌≡◌, ◌↔◌, ◌<ℤ◌, ◌≤ℤ◌, ◌*ℤ◌, ◌^◌, IsTrue};
 ghost use Rattle.fixed_convert.specs.Order.{order_of};
 
 use crate::number::Fixed;

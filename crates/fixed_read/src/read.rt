@@ -11,7 +11,7 @@ ghost use Rattle.fixed_numeral.specs.Cause.{HasCause};
 ghost use Rattle.fixed_numeral.specs.Numeral.{Parts, HasNumeral};
 ghost use Rattle.fixed_numeral.specs.declared.error.ParseErrorKind.TheVariants.{Overflow};
 ghost use Rattle.fixed_read.specs.Reading.{IsImageRead, IsOverflowingRead, IsReadInRange, IsReadNumber, number_in};
-ghost use Rattle.fixed_read.specs.Reading.{IsReadOutOfRange, IsReading};
+ghost use Rattle.fixed_read.specs.Reading.{IsReadOutOfRange};
 
 use crate::read_number::{ReadNumber, read_format};
 use crate::uncounted::read_uncounted;

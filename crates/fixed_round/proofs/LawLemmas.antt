@@ -1,5 +1,5 @@
 -- Each value has exactly one whole number for each rounding.
-use Rattle.std.proofs.Common.{◌≡◌, ℕ, ◌+◌, ◌-◌, ◌*◌, ◌%◌, ◌^◌, ◌≤◌, ◌<◌, ◌==◌, ℤ, pos, negsuc, neg_ℤ, ◌+ℤ◌, ◌*ℤ◌, ◌≤ℤ◌, arith, refl, sym, ap, ◌∙◌, Bool, true, false, inl, inr}
+use Rattle.std.proofs.Common.{◌≡◌, ℕ, ◌+◌, ◌-◌, ◌*◌, ◌%◌, ◌^◌, ◌≤◌, ◌<◌, ◌==◌, ℤ, pos, negsuc, ◌+ℤ◌, ◌*ℤ◌, ◌≤ℤ◌, arith, refl, sym, ap, ◌∙◌, Bool, true, false}
 use Rattle.std.specs.Prelude.{◌<ℤ◌, ◌-ℤ◌, unsigned_abs, ◌⊎◌, nat_lt, nat_le, cond, if◌then◌else◌}
 use Rattle.std.specs.Int.{is_negative}
 use Rattle.std.proofs.lemmas.Bool.Decides.{nat_tests}
@@ -8,7 +8,7 @@ use Rattle.std.proofs.lemmas.Nat.{pow_pos}
 use Rattle.fixed_bits.specs.Down.{IsDown, down}
 use Rattle.fixed_bits.proofs.Integers.{next_times, le_times, lt_cancel}
 use Rattle.fixed_bits.proofs.Public.{down_is}
-use Rattle.fixed_round.specs.Whole.{IsWhole, IsFloor, IsCeil, IsRound, IsTiesEven, is_up, whole, whole_bits, whole_distance}
+use Rattle.fixed_round.specs.Whole.{IsWhole, is_up, whole, whole_bits, whole_distance}
 use Rattle.fixed_round.specs.Laws.{WholeIsTheOne, WholeIsItsOwn}
 use Rattle.fixed_round.specs.declared.rounding.Rounding.{Rounding}
 use Rattle.fixed_round.specs.declared.rounding.Rounding.TheVariants.{Ceil, Floor, Round, RoundTiesEven}

@@ -1,6 +1,6 @@
 -- The whole part and the number rounded towards zero fit.
 use Rattle.std.proofs.Common.{◌≡◌, ℕ, zero, suc, ◌+◌, ◌-◌, ◌*◌, ◌/◌, ◌%◌, ◌^◌, ◌≤◌, ◌<◌, ◌==◌, ℤ, pos, negsuc, neg_ℤ, ◌+ℤ◌, ◌*ℤ◌, ◌≤ℤ◌, arith, refl, sym, ap, ◌∙◌, Bool, true, false, inl, inr, mod-lt}
-use Rattle.std.specs.Prelude.{◌<ℤ◌, ◌-ℤ◌, cond, if◌then◌else◌}
+use Rattle.std.specs.Prelude.{◌<ℤ◌, ◌-ℤ◌, if◌then◌else◌}
 use Rattle.std.proofs.Math.Nat.{div-add-mod}
 use Rattle.std.proofs.Math.Pow.{pow_mono}
 use Rattle.std.proofs.lemmas.Bool.{cases_lt}

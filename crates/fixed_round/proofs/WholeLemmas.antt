@@ -1,14 +1,10 @@
 -- The floor, the distance of a value from it, and the choice between the two whole numbers around a value.
-use Rattle.std.proofs.Common.{◌≡◌, ℕ, ◌+◌, ◌*◌, ◌^◌, ◌≤◌, ◌<◌, ℤ, pos, negsuc, neg_ℤ, ◌+ℤ◌, ◌*ℤ◌, ◌≤ℤ◌, arith, refl, sym, ap, ◌∙◌, true, false}
-use Rattle.std.specs.Prelude.{◌<ℤ◌, ◌-ℤ◌, unsigned_abs}
+use Rattle.std.proofs.Common.{◌≡◌, ℕ, ◌+◌, ◌*◌, ◌^◌, ◌≤◌, ◌<◌, ℤ, pos, ◌+ℤ◌, ◌*ℤ◌, ◌≤ℤ◌, arith, refl, ◌∙◌, true, false}
+use Rattle.std.specs.Prelude.{◌<ℤ◌, ◌-ℤ◌}
 use Rattle.std.specs.Int.{is_negative}
-use Rattle.std.proofs.Math.Pow.{pow_mono}
 use Rattle.std.proofs.lemmas.Int.{ints}
-use Rattle.std.proofs.lemmas.Nat.{pow_pos}
 use Rattle.fixed_bits.specs.Down.{IsDown, down}
-use Rattle.fixed_bits.specs.Ranges.{IsWide}
 use Rattle.fixed_bits.proofs.Integers.{next_times}
-use Rattle.fixed_bits.proofs.Public.{down_one}
 use Rattle.fixed_round.specs.Whole.{is_up, whole, whole_bits, whole_distance}
 use Rattle.fixed_round.specs.declared.rounding.Rounding.{Rounding}
 

@@ -5,8 +5,8 @@ use Rattle.std.proofs.lemmas.Bool.{cases_lt}
 use Rattle.std.proofs.Math.Nat.{one-le-pow, pow-le-pow_right, pow-zero, eq_of_mul-eq-mul_right}
 use Rattle.std.proofs.Math.Seq.{take-append_seam}
 use Rattle.std.specs.Fmt.{digit_glyph}
-use Rattle.fixed_bits.specs.Nearest.{IsNearest, IsEven}
-use Rattle.fixed_bits.proofs.Public.{nearest_scaled, nearest_by_rest, nearest_by_rest_up}
+use Rattle.fixed_bits.specs.Nearest.{IsNearest}
+use Rattle.fixed_bits.proofs.Public.{nearest_scaled, nearest_by_rest}
 use Rattle.fixed_write.specs.Texts.{whole_digits, last_digits, fraction_part, point_text, zero_digit}
 use Rattle.fixed_write.specs.Inner.Figures.{IsLeading, HasRoundedFigures}
 use Rattle.fixed_write.proofs.DigitLemmas.{whole_digits_split, whole_digits_full, whole_digits_digit, whole_digits_more, last_digits_length, last_digits_none, last_digits_same, fraction_none, fraction_suc}

@@ -1,14 +1,12 @@
 -- Steps of 2^-64 and ulps of 2^-g.
 use Rattle.std.proofs.Math.Nat.{mul-le-mul}
-use Rattle.std.proofs.Common.{false, ◌≡◌, ℕ, zero, suc, ◌+◌, ◌-◌, ◌*◌, ◌/◌, ◌%◌, ◌^◌, ◌<◌, ◌≤◌, Bool, List, ℤ, unsigned_abs, refl, sym, ap, ◌∙◌, arith, pow_pos, mul_assoc, mul_comm, div-add-mod', mul-le-mul_left}
+use Rattle.std.proofs.Common.{false, ◌≡◌, ℕ, zero, suc, ◌+◌, ◌-◌, ◌*◌, ◌/◌, ◌%◌, ◌^◌, ◌<◌, ◌≤◌, Bool, List, refl, sym, ap, ◌∙◌, arith, pow_pos, div-add-mod', mul-le-mul_left}
 use Rattle.std.proofs.Math.Nat.{mul-div_cancel_left, pow-le-pow_right}
 use Rattle.std.proofs.lemmas.Nat.{pow-add, div_below}
-use Rattle.std.specs.Fmt.{sign_text}
-use Rattle.std.specs.Int.{is_negative}
 use Rattle.fixed_bits.specs.Rounded.{IsRounded}
 use Rattle.fixed_bits.specs.declared.mode.ReadMode.{ReadMode}
 use Rattle.fixed_bits.proofs.Public.{rounded_same}
-use Rattle.fixed_write.specs.Places.{IsExact, IsRoundedText, IsExactText}
+use Rattle.fixed_write.specs.Places.{IsExact}
 use Rattle.fixed_write.specs.Inner.Digits.{AppendsRounded, AppendsExact, IsBlock}
 
 pub whole_power : (g : ℕ) → g ≤ 64 → 2 ^ 64 ≡ 2 ^ g * 2 ^ (64 - g)

@@ -15,8 +15,7 @@ use Rattle.fixed_write.specs.Places.{rounded_text}
 use Rattle.fixed_write.specs.Shortest.{nearest_number}
 use Rattle.fixed_write.specs.Texts.{IsShortestText, decimal_text, whole_digits, last_digits, fraction_part, point_text, point, zero_digit}
 use Rattle.fixed_write.specs.Inner.Digits.{AppendsRounded, AppendsExact}
-use Rattle.fixed_write.specs.declared.style.Style.{Style}
-use Rattle.fixed_write.specs.Styled.{base_of, is_upper, IsBody, IsPointBody, IsStyledText, sign_and_prefix, padded_text}
+use Rattle.fixed_write.specs.Styled.{base_of, is_upper, IsBody, IsPointBody}
 use Rattle.fixed_write.specs.Inner.Figures.{HasBody, HasExponentBody}
 use Rattle.fixed_write.specs.Inner.Styling.{AppendsBody, IsPointNotation}
 use Rattle.fixed_bits.proofs.Public.{not_negative}

@@ -1,6 +1,6 @@
 //! Digits in a base from 2 to 16. The base is a const parameter, so each base is compiled with its constants.
 
-ghost use Rattle.std.specs.Prelude.{◌≡◌, ℕ, ◌+◌, ◌^◌, ◌<◌, ◌≤◌, ◌++◌, [], ◌∷◌, length, Bool};
+ghost use Rattle.std.specs.Prelude.{◌≡◌, ◌+◌, ◌^◌, ◌<◌, ◌≤◌, ◌++◌, [], ◌∷◌, length};
 ghost use Rattle.std.specs.Fmt.{digit_glyph};
 ghost use Rattle.fixed_write.specs.Texts.{whole_digits, last_digits};
 

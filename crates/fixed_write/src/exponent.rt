@@ -6,7 +6,7 @@
 //! digits, one division rounds it. If the rounded number has reached the next power of ten, its figures are a one and
 //! zeros, and the exponent is one more.
 
-ghost use Rattle.std.specs.Prelude.{◌≡◌, ℕ, ◌+◌, ◌*◌, ◌/◌, ◌%◌, ◌-◌, ◌^◌, ◌<◌, ◌≤◌, ◌++◌, [], ◌⊎◌, ◌↔◌, false, length};
+ghost use Rattle.std.specs.Prelude.{◌≡◌, ◌+◌, ◌*◌, ◌/◌, ◌%◌, ◌-◌, ◌^◌, ◌<◌, ◌≤◌, ◌++◌, [], ◌⊎◌, ◌↔◌, false, length};
 ghost use Rattle.std.specs.Prelude.{replicate, IsTrue, pos, ◌≤ℤ◌, ◌-ℤ◌, neg_ℤ, take, drop, Some};
 ghost use Rattle.fixed_bits.specs.Nearest.{IsNearest, IsEven};
 ghost use Rattle.fixed_write.specs.Texts.{whole_digits};

@@ -1,6 +1,6 @@
 //! The digits of a value in a base, to a count of places or exactly.
 
-ghost use Rattle.std.specs.Prelude.{◌≡◌, ℕ, ◌+◌, ◌*◌, ◌/◌, ◌%◌, ◌-◌, ◌^◌, ◌<◌, ◌≤◌, ◌++◌, [], ◌∷◌, ◌⊎◌, ◌==◌};
+ghost use Rattle.std.specs.Prelude.{◌≡◌, ◌+◌, ◌*◌, ◌/◌, ◌%◌, ◌-◌, ◌^◌, ◌<◌, ◌≤◌, ◌++◌, [], ◌∷◌, ◌⊎◌, ◌==◌};
 ghost use Rattle.std.specs.Prelude.{false, if◌then◌else◌, length};
 ghost use Rattle.fixed_bits.specs.LostFractions.{IsLostFraction};
 ghost use Rattle.fixed_bits.specs.Nearest.{IsEven};

@@ -14,7 +14,7 @@
 //! Both are computed, and one is chosen without a branch. It is printed with zeros up to a fixed count of places, all
 //! at once, and the text ends after its last digit that is not zero.
 
-ghost use Rattle.std.specs.Prelude.{◌≡◌, false, ◌+◌, ◌*◌, ◌/◌, ◌%◌, ◌-◌, ◌^◌, ◌<◌, ◌≤◌, ◌++◌, length, unsigned_abs};
+ghost use Rattle.std.specs.Prelude.{◌≡◌, ◌+◌, ◌*◌, ◌/◌, ◌%◌, ◌-◌, ◌^◌, ◌<◌, ◌≤◌, ◌++◌, length, unsigned_abs};
 ghost use Rattle.std.specs.Prelude.{◌⊎◌, ◌↔◌, ℕ, IsTrue};
 ghost use Rattle.std.specs.Fmt.{sign_text};
 ghost use Rattle.std.specs.Int.{is_negative};

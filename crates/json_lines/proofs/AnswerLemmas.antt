@@ -305,11 +305,6 @@ kept_made keeps line text read refused asks is made =
     let stays : kept keeps line read ≡ record { text = line; fault = true } = rw (asks, made.fault, is) refl in
     subst (λ a. IsMade a line refused) (sym stays) (record { text_is = refl; fault = sym is })
 
-pub left_made : (keeps : Bool) (line text : List ℕ) (read : AnswerText) (refused : Refused) → (keeps && is_refused refused) ≡ false → IsMade read text refused → IsMade (kept keeps line read) text refused
-left_made keeps line text read refused is made =
-    let left : kept keeps line read ≡ read = rw (made.fault, is) refl in
-    subst (λ a. IsMade a text refused) (sym left) made
-
 pub whole_line : (line : List ℕ) → length line ≤ longest → take kept_length ([] ++ line) ≡ line
 whole_line line short = take_all kept_length line (omega (arith, short))
 

@@ -4,8 +4,8 @@
 //! members and elements that the path names; of the first that does not, the number of the current element is kept; and
 //! the others matter only by their count.
 
-ghost use Rattle.std.specs.Prelude.{◌≡◌, ◌<◌, ◌≤◌, ◌+◌, ◌^◌, List, None, Some, [], ◌∷◌, drop, length, map};
-ghost use Rattle.json_lines.specs.Inner.Tracked.{IsOff, Tracks};
+ghost use Rattle.std.specs.Prelude.{◌≡◌, ◌<◌, ◌≤◌, ◌+◌, ◌^◌, List, None, Some, [], ◌∷◌, drop, map};
+ghost use Rattle.json_lines.specs.Inner.Tracked.{Tracks};
 ghost use Rattle.json_lines.specs.Path.{PathStep, step_of};
 ghost use Rattle.json_lines.specs.Pieces.{content};
 ghost use Rattle.json_lines.specs.Places.{Frame, after, at_path, element, is_at, matches_at, named, object, passed};

@@ -1,6 +1,6 @@
 //! A source and a sink in memory that fail at given calls.
 
-ghost use Rattle.std.specs.Prelude.{◌≡◌, ◌≤◌, ◌<◌, Some, [], length, take, drop};
+ghost use Rattle.std.specs.Prelude.{◌≡◌, ◌≤◌, ◌<◌, Some, [], length};
 
 use crate::{Failed, Sink, Source};
 

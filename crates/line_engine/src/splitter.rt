@@ -1,27 +1,7 @@
 //! Cuts the chunks of an input into lines and answers them. A line may span chunks.
 
-ghost use Rattle.std.specs.Prelude.{
-  ◌≡◌,
-  ◌≤◌,
-  ◌<◌,
-  ◌↔◌,
-  IsTrue,
-  ◌+◌,
-  ◌*◌,
-  ◌++◌,
-  ◌||◌,
-  [],
-  ◌∷◌,
-  List,
-  ℕ,
-  OnOk,
-  OnErr,
-  IfOk,
-  length,
-  take,
-  true,
-  false,
-};
+ghost use Rattle.std.specs.Prelude.{◌≡◌, ◌≤◌, ◌<◌, ◌↔◌, IsTrue, ◌+◌, ◌*◌, ◌++◌, ◌||◌, [], ◌∷◌, List, ℕ};
+ghost use Rattle.std.specs.Prelude.{OnOk, OnErr, IfOk, length, take};
 ghost use Rattle.std.specs.Io.KnownBytes.{Appends};
 ghost use Rattle.line_engine.specs.Failures.{FailsOnlyCounted};
 ghost use Rattle.line_engine.specs.Lines.{ended_lines, kept_length, unended, last_line};

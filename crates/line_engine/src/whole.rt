@@ -1,21 +1,6 @@
 //! An input that is read to its end before anything is written.
 
-ghost use Rattle.std.specs.Prelude.{
-  ◌≡◌,
-  ◌≤◌,
-  ◌+◌,
-  ◌++◌,
-  [],
-  List,
-  ℕ,
-  length,
-  take,
-  IfOk,
-  IsOk,
-  OnErr,
-  OnOk,
-  vec_capacity,
-};
+ghost use Rattle.std.specs.Prelude.{◌≡◌, ◌≤◌, ◌+◌, ◌++◌, [], List, ℕ, length, IfOk, IsOk, OnErr, OnOk, vec_capacity};
 ghost use Rattle.line_engine.specs.Asked.{AskedWithin};
 ghost use Rattle.line_engine.specs.Filled.{HasFilled, TakesWithin};
 

@@ -1,7 +1,7 @@
 use Rattle.std.proofs.Common.{false, ℕ, ◌+◌, ◌*◌, ◌^◌, refl, subst, sym}
 use Rattle.std.proofs.lemmas.Nat.{pow_pos}
 use Rattle.fixed_bits.specs.LostFractions.{IsLostFraction}
-use Rattle.fixed_bits.specs.Rounded.{IsRounded, magnitude_mode}
+use Rattle.fixed_bits.specs.Rounded.{IsRounded}
 use Rattle.fixed_bits.specs.declared.mode.ReadMode.{ReadMode}
 use Rattle.fixed_bits.proofs.Public.{magnitude_rounded}
 use Rattle.fixed_convert.proofs.rounded.rounded_quotient.Goals as goal

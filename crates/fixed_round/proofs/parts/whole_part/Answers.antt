@@ -1,6 +1,6 @@
-use Rattle.std.proofs.Common.{rules, arith, ◌≡◌, ◌∙◌, sym, FitsSigned, ◌-ℤ◌, pos, to_z, of_z}
+use Rattle.std.proofs.Common.{rules, ◌≡◌, ◌∙◌, sym, FitsSigned, ◌-ℤ◌, to_z, of_z}
 use Rattle.std.specs.Int.{w128}
-use Rattle.std.proofs.lemmas.Int.{ints, to_z-of_z}
+use Rattle.std.proofs.lemmas.Int.{to_z-of_z}
 use Rattle.fixed_bits.proofs.Public.{in_wide, type_width, width_most}
 use Rattle.fixed_round.specs.Parts.{int_bits}
 use Rattle.fixed_round.proofs.PartLemmas.{int_none, int_floor, int_fits, rest_fits}

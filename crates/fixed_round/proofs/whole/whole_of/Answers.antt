@@ -1,11 +1,11 @@
-use Rattle.std.proofs.Common.{rules, arith, ◌≡◌, ◌∙◌, ap, sym, ◌+◌, ◌^◌, ℤ, pos, ◌*ℤ◌, ◌+ℤ◌, ◌-ℤ◌, FitsSigned, to_z, of_z, Bool, true, false}
+use Rattle.std.proofs.Common.{rules, arith, ◌≡◌, ◌∙◌, sym, ◌+◌, ◌^◌, ℤ, pos, ◌*ℤ◌, ◌+ℤ◌, ◌-ℤ◌, FitsSigned, to_z, of_z, Bool, true, false}
 use Rattle.std.specs.Int.{w128, is_negative}
 use Rattle.std.proofs.lemmas.Int.{ints, to_z-of_z}
 use Rattle.std.proofs.Math.Pow.{pow_mono}
-use Rattle.fixed_bits.specs.Down.{IsDown, down}
+use Rattle.fixed_bits.specs.Down.{IsDown}
 use Rattle.fixed_bits.proofs.Integers.{next_times}
 use Rattle.fixed_bits.proofs.Public.{down_equal}
-use Rattle.fixed_round.specs.Whole.{is_up, whole_bits, whole_distance}
+use Rattle.fixed_round.specs.Whole.{is_up, whole_distance}
 use Rattle.fixed_round.proofs.WholeLemmas.{floor_at_most, floor_next, distance_below, up_is, low_is}
 use Rattle.fixed_round.proofs.whole.whole_of.Goals as goal
 use Rattle.fixed_round.proofs.whole.whole_of.Goals.{After-unsigned_abs, After-is_rounded_up}

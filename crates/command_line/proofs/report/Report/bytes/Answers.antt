@@ -1,4 +1,4 @@
-use Rattle.std.proofs.Common.{List, ℕ, subst, sym, take}
+use Rattle.std.proofs.Common.{List, ℕ, subst, sym}
 use Rattle.command_line.specs.Said.{Shows}
 use Rattle.command_line.proofs.ReportLemmas.{line_found, line_whole}
 use Rattle.command_line.proofs.report.Report.bytes.Goals as goal
