@@ -1,6 +1,6 @@
 -- What a line may have besides its numeral.
 use Rattle.std.specs.Prelude.{◌≡◌, ◌==◌, ◌&&◌, ◌||◌, ◌-◌, ℕ, List, [], Bool, true, false, not, drop, if◌then◌else◌}
-use Rattle.std.specs.Prelude.{length, nat_lt, take}
+use Rattle.std.specs.Prelude.{MatchOption, Option, length, nat_lt, take}
 use Rattle.std.specs.Char.{is_ascii_whitespace}
 use Rattle.std.specs.List.{prefix_len, starts_with, suffix_len}
 use Rattle.fixed_respell.specs.Answer.{fault_message}
@@ -65,3 +65,12 @@ IsAnswerLaidBy false false l A line answer = A (without_blanks l line) answer
 -- that to the line without blanks
 abbrev pub AnswersLaidOut : LineLayout → (List ℕ → AnswerText → Type 0) → List ℕ → AnswerText → Type 0
 AnswersLaidOut l A line answer = IsAnswerLaidBy (nat_lt longest_line (length line)) (is_skipped l line) l A line answer
+
+-- the line that is answered for a line: the same if it is too long, else without blanks
+abbrev pub answered_line : LineLayout → List ℕ → List ℕ
+answered_line l line = if nat_lt longest_line (length line) then line else without_blanks l line
+
+-- what is noted of an answered line: nothing of a skipped one, else what the meaning `Notes` says of the line that is
+-- answered for it
+abbrev pub NotesLaidOut : {N : Type 0} → LineLayout → (List ℕ → N → Type 0) → List ℕ → Option N → Type 0
+NotesLaidOut l Notes line note = MatchOption note (is_skipped l line ≡ true) (Notes (answered_line l line))

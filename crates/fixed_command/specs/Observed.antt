@@ -6,7 +6,7 @@ use Rattle.run_engine.specs.Refused.{SawRefused}
 use Rattle.run_engine.specs.declared.refusals.RefusedLine as engine
 use Rattle.run_engine.specs.declared.refusals.Refusals.{Refusals}
 use Rattle.fixed_command.specs.Convert.{without_return}
-use Rattle.fixed_command.specs.Layout.{is_skipped, numeral_of}
+use Rattle.fixed_command.specs.Layout.{LineLayout, answered_line, is_skipped, numeral_of}
 use Rattle.fixed_command.specs.Outcome.{IsOutcome, has_error, noted}
 use Rattle.fixed_command.specs.Watched.{kept_bytes}
 use Rattle.fixed_command.specs.declared.layout.LaidOutRule.{LaidOutRule}
@@ -29,6 +29,10 @@ reported_of message (Some line) = Some (record {
 -- the record of refused lines after one more line, without one carriage return at its end
 abbrev pub SawReturned : {N : Type 0} → Refusals Message → ℕ → List ℕ → Result N Message → Refusals Message → Type 0
 SawReturned watch number line result then = SawRefused watch number (without_return line) result then
+
+-- the record of refused lines after one more line, as it was answered
+abbrev pub SawLaid : {N C : Type 0} → LineLayout → Refusals C → ℕ → List ℕ → Result N C → Refusals C → Type 0
+SawLaid l watch number line result then = SawRefused watch number (answered_line l line) result then
 
 -- the outcome of the numeral of a line that is answered; a skipped line has none
 abbrev pub IsLineOutcome : LaidOutRule → List ℕ → Option Outcome → Type 0

@@ -14,11 +14,13 @@ use Rattle.run_engine.specs.Reply.{Returns}
 use Rattle.run_engine.specs.declared.refusals.Refusals.{Refusals}
 use Rattle.fixed_command.specs.Convert.{IsLineReply, IsReply}
 use Rattle.fixed_command.specs.Errors.{IsErrorLine}
-use Rattle.fixed_command.specs.Layout.{IsLaidOut}
+use Rattle.fixed_command.specs.Layout.{AnswersLaidOut, IsLaidOut, LineLayout, NotesLaidOut, answered_line}
 use Rattle.fixed_command.specs.Limits.{limit_of}
 use Rattle.fixed_command.specs.Message.{message_text}
-use Rattle.fixed_command.specs.Observed.{IsLineOutcome, SawCounted, SawReturned, reported_of}
+use Rattle.fixed_command.specs.Observed.{IsLineOutcome, SawCounted, SawLaid, SawReturned, reported_of}
 use Rattle.fixed_command.specs.Runs.{reported_extra, reported_per_byte}
+use Rattle.fixed_command.specs.declared.laid_lines.LaidOutLines as laid
+use Rattle.fixed_command.specs.declared.laid_lines.LaidRefusals.{LaidRefusals}
 use Rattle.fixed_command.specs.declared.message.Message.{Message}
 use Rattle.fixed_command.specs.declared.observed.CountedRule.{CountedRule}
 use Rattle.fixed_command.specs.declared.observed.LineReport.{LineReport}
@@ -56,6 +58,24 @@ pub record ReportsRefused (R : Type 0) {C : Type 0} (A : List ℕ → AnswerText
   pub run : HasLinesRun rule A (Returns NoNote refusal) SawRefused per_byte extra limit before after end.status first
       last
   pub tells : Tells message last end.refusals
+
+-- how the observer of refused lines as they were answered changes
+abbrev pub SawLaidOf : {N C : Type 0} → LineLayout → LaidRefusals C → ℕ → List ℕ → Result N C → LaidRefusals C
+    → Type 0
+SawLaidOf l watch number line result then = SawLaid l watch.refusals number line result then.refusals
+
+-- the same for lines with a layout: the observer saw each line as it was answered
+pub record ReportsLaid (R : Type 0) {C : Type 0} (layout : LineLayout) (A : List ℕ → AnswerText → Type 0)
+    (refusal : List ℕ → C → List ℕ) (message : C → List ℕ) (per_byte extra limit : ℕ) (before after : Outside)
+    (end : TaskEnd) : Type 0 where
+  pub rule : R
+  pub first : LaidRefusals C
+  pub last : LaidRefusals C
+  pub fresh : IsFresh first.refusals
+  pub run : HasLinesRun {R = laid.LaidOutLines R} (record { rule = rule; layout = layout }) (AnswersLaidOut layout A)
+      (Returns (NotesLaidOut layout NoNote) (λ line. refusal (answered_line layout line))) (SawLaidOf layout) per_byte
+      extra limit before after end.status first last
+  pub tells : Tells message last.refusals end.refusals
 
 -- how the observer of refused lines without a carriage return changes
 abbrev pub SawReturnedOf : RefusedLines → ℕ → List ℕ → Result (Unit {0}) Message → RefusedLines → Type 0
@@ -99,8 +119,7 @@ pub record ReportsCounted (counted : CountedRule) (limit : ℕ) (before after : 
   pub tally : end.tally ≡ last.tally
   pub errors : end.errors ≡ Some last.errors
 
--- what the end of a task reports; it is not stated for questions, for whole inputs, and for lines and enclosures of
--- lines as people write them
+-- what the end of a task reports; it is not stated for questions and for whole inputs
 abbrev pub TaskReports : Option ℕ → Task → Outside → Outside → TaskEnd → Type 0
 TaskReports limit Lines before after end = ReportsRefused RespellRule respell.IsAnswer
     (refusal_text respell.fault_message) (refusal_message respell.fault_message) 8 624 (limit_of limit) before after end
@@ -114,8 +133,11 @@ TaskReports limit (Errors lines) before after end = ReportsReturned lines (IsErr
 TaskReports limit Enclose before after end = ReportsRefused EncloseRule enclose.IsAnswer
     (refusal_text enclose.fault_message) (refusal_message enclose.fault_message) 16 1248 (limit_of limit) before after
     end
-TaskReports limit (LaidOutLines layout) before after end = Unit {0}
-TaskReports limit (LaidOutEnclose layout) before after end = Unit {0}
+TaskReports limit (LaidOutLines layout) before after end = ReportsLaid RespellRule layout respell.IsAnswer
+    (refusal_text respell.fault_message) (refusal_message respell.fault_message) 8 624 (limit_of limit) before after end
+TaskReports limit (LaidOutEnclose layout) before after end = ReportsLaid EncloseRule layout enclose.IsAnswer
+    (refusal_text enclose.fault_message) (refusal_message enclose.fault_message) 16 1248 (limit_of limit) before after
+    end
 TaskReports limit (Ask form question) before after end = Unit {0}
 TaskReports limit (LaidOutAsk form question layout) before after end = Unit {0}
 TaskReports limit (Least rule) before after end = Unit {0}

@@ -1,15 +1,14 @@
 //! Lines as people write them, answered by another rule.
 
-ghost use Rattle.std.specs.Prelude.{◌≡◌, ◌+◌, ◌*◌, ◌≤◌, ◌<◌, length};
+ghost use Rattle.std.specs.Prelude.{◌≡◌, ◌+◌, ◌*◌, ◌≤◌, ◌<◌, None, length};
 
 use crate::layout::Layout;
-use crate::watch::Watched;
 use fixed_steps::Steps;
-use line_engine::{LineRule, MAX_LINE, Output};
+use line_engine::{MAX_LINE, Output};
+use run_engine::{LineRule, Refusals, Rule, Watch};
 use std::sync::ledger::Ledger;
 
-/// The rule that answers a line without blanks by another rule, and a skipped line with an empty one. The rule's watch
-/// counts each line.
+/// The rule that answers a line without blanks by another rule, and a skipped line with an empty one.
 #[derive(Drop)]
 pub struct LaidOutLines<R> {
     /// The rule for a line without blanks.
@@ -18,9 +17,13 @@ pub struct LaidOutLines<R> {
     pub layout: Layout,
 }
 
-impl<R: LineRule<L> + Watched, L: Ledger> LineRule<L> for LaidOutLines<R> {
-    ghost use Rattle.fixed_command.specs.Layout.{AnswersLaidOut};
-    ghost use Rattle.fixed_command.specs.Lemmas.LaidLineLemmas.{laid_answer_kept, laid_answer_one};
+impl<R: Rule<L>, L: Ledger> Rule<L> for LaidOutLines<R> {
+    ghost use Rattle.fixed_command.specs.Layout.{AnswersLaidOut, NotesLaidOut, answered_line};
+    ghost use Rattle.fixed_command.specs.Lemmas.LaidLineLemmas.{laid_answer_one};
+
+    type Note = Option<R::Note>;
+
+    type Cause = R::Cause;
 
     const PER_BYTE: u64 = R::PER_BYTE;
 
@@ -36,23 +39,83 @@ impl<R: LineRule<L> + Watched, L: Ledger> LineRule<L> for LaidOutLines<R> {
 
     ghost Answers = { λ laid. AnswersLaidOut laid.layout (R.Answers laid.rule) };
 
-    fn answer(&self, line: &[u8], out: &mut Output, steps: &mut Steps<L>) -> bool {
-        if line.len() > MAX_LINE {
-            return self.rule.answer(line, out, steps);
+    ghost Notes = { λ laid. NotesLaidOut laid.layout (R.Notes laid.rule) };
+
+    ghost refusal = { λ laid line. R.refusal laid.rule (answered_line laid.layout line) };
+
+    fn answer(
+        &self,
+        line: &[u8],
+        out: &mut Output,
+        steps: &mut Steps<L>,
+    ) -> Result<Option<R::Note>, R::Cause> {
+        if line.len() <= MAX_LINE && self.layout.is_skipped(line) {
+            return Ok(None);
         }
-        if self.layout.is_skipped(line) {
-            self.rule.watch().pass();
-            return false;
+        match self.rule.answer(self.layout.answered(line), out, steps) {
+            Ok(note) => Ok(Some(note)),
+            Err(cause) => Err(cause),
         }
+    }
+
+    fn push_refusal(&self, line: &[u8], cause: &R::Cause, out: &mut Output) {
         self.rule
-            .answer(self.layout.without_blanks(line), out, steps)
+            .push_refusal(self.layout.answered(line), cause, out);
     }
 
     ghost room_law = { R.room_law };
 
     ghost one_law = { λ laid. laid_answer_one laid.layout (R.Answers laid.rule)
         (R.one_law laid.rule) };
+}
+
+impl<R: LineRule<L>, L: Ledger> LineRule<L> for LaidOutLines<R> {
+    ghost use Rattle.fixed_command.specs.Lemmas.LaidLineLemmas.{laid_answer_kept};
 
     ghost kept_law = { λ laid. laid_answer_kept laid.layout (R.Answers laid.rule)
         (R.kept_law laid.rule) };
+}
+
+/// The refused lines, each as it was answered: their count, and the first.
+#[derive(Drop)]
+pub struct LaidRefusals<C> {
+    pub refusals: Refusals<C>,
+}
+
+impl<C> LaidRefusals<C> {
+    /// The state before the first line.
+    pub fn new() -> LaidRefusals<C>
+        ensures count { result.refusals.count ≡ 0 }
+        ensures first { result.refusals.first ≡ None }
+    {
+        LaidRefusals {
+            refusals: Refusals::new(),
+        }
+    }
+}
+
+impl<C: Copy, R: Rule<L, Cause = C>, L: Ledger> Watch<LaidOutLines<R>, L> for LaidRefusals<C> {
+    ghost use Rattle.fixed_command.specs.Observed.{SawLaid};
+
+    ghost PER_BYTE = { 0 };
+
+    ghost EXTRA = { 0 };
+
+    ghost Saw = { λ laid watch number line result then. SawLaid laid.layout watch.refusals number line result
+        then.refusals };
+
+    #[inline]
+    fn see(
+        &mut self,
+        rule: &LaidOutLines<R>,
+        number: u64,
+        line: &[u8],
+        returned: &Result<Option<R::Note>, C>,
+        _steps: &mut Steps<L>,
+    ) {
+        if let Err(cause) = returned {
+            self.refusals
+                .refuse(number, rule.layout.answered(line), *cause);
+        }
+    }
 }

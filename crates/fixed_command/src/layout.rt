@@ -6,7 +6,7 @@
 //! line is.
 
 ghost use Rattle.std.specs.Prelude.{◌≡◌, ◌≤◌, MatchOption, ◌<◌, length};
-ghost use Rattle.fixed_command.specs.Layout.{after_blanks, blanks_before, is_skipped, numeral_of};
+ghost use Rattle.fixed_command.specs.Layout.{after_blanks, answered_line, blanks_before, is_skipped, numeral_of};
 ghost use Rattle.fixed_command.specs.Layout.{trimmed, without_blanks};
 ghost use Rattle.fixed_respell.specs.Answer.{fault_message};
 
@@ -114,6 +114,18 @@ impl Layout {
         ensures short { length result.now ≤ length line.now }
     {
         if self.is_trimmed { trimmed(line) } else { line }
+    }
+
+    /// Returns the line that is answered for a line: the same if it is too long, else without blanks.
+    pub fn answered<'l>(&self, line: &'l [u8]) -> &'l [u8]
+        ensures value { result.now ≡ answered_line self.now line.now }
+        ensures short { length result.now ≤ length line.now }
+    {
+        if line.len() > MAX_LINE {
+            line
+        } else {
+            self.without_blanks(line)
+        }
     }
 
     /// How many bytes of a line are blanks before its numeral.

@@ -48,7 +48,7 @@ pub use field_report::{FieldReport, ReportedNumerals, field_outcome};
 pub use fixed_show::{Form, Measure, Part};
 pub use hex::{push_hex, word_of};
 pub use hint::Offers;
-pub use laid_lines::LaidOutLines;
+pub use laid_lines::{LaidOutLines, LaidRefusals};
 pub use laid_list::LaidOutList;
 pub use layout::{LaidOutRule, Layout, MAX_PREFIX};
 pub use least_lines::LeastLines;
@@ -67,7 +67,7 @@ pub use swapped::SwappedRule;
 pub use task::{
     Limit, Task, TaskEnd, bytes_within, greater_end, run_convert, run_task, whole_within,
 };
-pub use watch::{Refusals, RefusedLine, Watch, Watched};
+pub use watch::{Refusals, RefusedLine, Watch};
 pub use words::{
     mode_named, policy_named, print_named, radix_named, spelling_named, target_mode_named,
 };

@@ -17,7 +17,8 @@ ghost use Rattle.fixed_command.specs.Limits.{limit_of, max_limit, no_limit, whol
 ghost use Rattle.fixed_command.specs.LineBlocks.{IsLineBlock};
 ghost use Rattle.fixed_command.specs.Products.{IsProduct};
 ghost use Rattle.fixed_command.specs.Renamed.{IsRenamedAnswer};
-ghost use Rattle.fixed_command.specs.Reports.{ReportsCounted, ReportsRefused, ReportsReturned, TaskReports};
+ghost use Rattle.fixed_command.specs.Reports.{ReportsCounted, ReportsLaid, ReportsRefused, ReportsReturned};
+ghost use Rattle.fixed_command.specs.Reports.{TaskReports};
 ghost use Rattle.fixed_enclose.specs.declared.rule.EncloseRule.{EncloseRule};
 ghost use Rattle.fixed_respell.specs.Refusal.{refusal_message, refusal_text};
 ghost use Rattle.fixed_respell.specs.declared.respell_rule.RespellRule.{RespellRule};
@@ -29,7 +30,7 @@ ghost use Rattle.run_engine.specs.Reply.{Returns};
 use crate::ConvertRule;
 use crate::blocks::Question;
 use crate::error_lines::ErrorLines;
-use crate::laid_lines::LaidOutLines;
+use crate::laid_lines::{LaidOutLines, LaidRefusals};
 use crate::laid_list::LaidOutList;
 use crate::layout::{LaidOutRule, Layout};
 use crate::least_lines::LeastLines;
@@ -37,9 +38,7 @@ use crate::line_blocks::BlockRule;
 use crate::observed::{CountedRule, LineReport, RefusedLines, reported};
 use crate::outcome::Tally;
 use crate::renamed::RenamedRule;
-use crate::watch::{
-    Product, Refusals, Watch, WatchedBlocks, WatchedEnclosures, WatchedLines, WatchedWhole,
-};
+use crate::watch::{LaidOutBlocks, Product, Refusals, Watch, WatchedBlocks, WatchedWhole};
 use fixed_columns::ColumnsRule;
 use fixed_constants::{FormRule, PlainRule};
 use fixed_enclose::EncloseRule;
@@ -298,16 +297,28 @@ fn run_laid_words<S: Source, K: Sink, L: Ledger>(
         (K.written sink.old) (K.failures sink.old) steps.old)
         (outside (S.left source.new) (S.asked source.new) (S.failures source.new)
         (K.written sink.new) (K.failures sink.new) steps.new) result.status }
+    ensures reports { ¬ (result.status ≡ Status.NoMemory) → ReportsLaid RespellRule layout.now IsAnswer
+        (refusal_text fault_message) (refusal_message fault_message) 8 624 (limit_of limit.now)
+        (outside (S.left source.old) (S.asked source.old) (S.failures source.old)
+        (K.written sink.old) (K.failures sink.old) steps.old)
+        (outside (S.left source.new) (S.asked source.new) (S.failures source.new)
+        (K.written sink.new) (K.failures sink.new) steps.new) result }
     ensures memory { result.status ≡ Status.NoMemory → sink.new ≡ sink.old }
 {
     let laid = LaidOutLines {
-        rule: WatchedLines {
-            watch: Watch::new(),
-        },
+        rule: RespellRule,
         layout: layout.same(),
     };
-    let status = run_asked(alloc, bytes_within(limit), &laid, source, sink, steps);
-    TaskEnd::of(status, laid.rule.watch.refusals())
+    let end = run_rule(
+        alloc,
+        limit,
+        &laid,
+        LaidRefusals::new(),
+        source,
+        sink,
+        steps,
+    );
+    TaskEnd::of(end.status, reported(&end.watch.refusals))
 }
 
 /// Answers each line of an input with the enclosure of its numeral.
@@ -357,16 +368,28 @@ fn run_laid_enclosures<S: Source, K: Sink, L: Ledger>(
         (K.written sink.old) (K.failures sink.old) steps.old)
         (outside (S.left source.new) (S.asked source.new) (S.failures source.new)
         (K.written sink.new) (K.failures sink.new) steps.new) result.status }
+    ensures reports { ¬ (result.status ≡ Status.NoMemory) → ReportsLaid EncloseRule layout.now enclose.IsAnswer
+        (refusal_text enclose.fault_message) (refusal_message enclose.fault_message) 16 1248 (limit_of limit.now)
+        (outside (S.left source.old) (S.asked source.old) (S.failures source.old)
+        (K.written sink.old) (K.failures sink.old) steps.old)
+        (outside (S.left source.new) (S.asked source.new) (S.failures source.new)
+        (K.written sink.new) (K.failures sink.new) steps.new) result }
     ensures memory { result.status ≡ Status.NoMemory → sink.new ≡ sink.old }
 {
-    let enclosures = LaidOutLines {
-        rule: WatchedEnclosures {
-            watch: Watch::new(),
-        },
+    let laid = LaidOutLines {
+        rule: EncloseRule,
         layout: layout.same(),
     };
-    let status = run_asked(alloc, bytes_within(limit), &enclosures, source, sink, steps);
-    TaskEnd::of(status, enclosures.rule.watch.refusals())
+    let end = run_rule(
+        alloc,
+        limit,
+        &laid,
+        LaidRefusals::new(),
+        source,
+        sink,
+        steps,
+    );
+    TaskEnd::of(end.status, reported(&end.watch.refusals))
 }
 
 /// Answers each line of an input in a form, as a question requests.
@@ -412,7 +435,7 @@ fn run_laid_questions<S: Source, K: Sink, L: Ledger>(
         (K.written sink.new) (K.failures sink.new) steps.new) result.status }
     ensures memory { result.status ≡ Status.NoMemory → sink.new ≡ sink.old }
 {
-    let questions = LaidOutLines {
+    let questions = LaidOutBlocks {
         rule: WatchedBlocks {
             rule,
             watch: Watch::new(),

@@ -9,14 +9,13 @@ ghost use Rattle.fixed_respell.specs.Language.{fault_answer};
 
 use crate::blocks::first_bytes;
 use crate::convert::without_return;
+use crate::layout::Layout;
 use crate::line_blocks::BlockRule;
 use crate::named_line::{line_and_message, line_at};
 use crate::outcome::one_more;
-use fixed_enclose::append_answer as append_enclosure;
-use fixed_respell::append_answer;
 use fixed_show::{Form, MAX_OBJECT};
 use fixed_steps::Steps;
-use line_engine::{LineRule, MAX_ANSWER, NoMemory, Output, WholeAnswer, WholeRule};
+use line_engine::{LineRule, MAX_LINE, NoMemory, Output, WholeAnswer, WholeRule};
 use memchr::memrchr;
 use std::alloc::Global;
 use std::cell::Cell;
@@ -149,24 +148,9 @@ impl Watch {
         self.refusals.replace(Refusals::new())
     }
 
-    /// Counts a line before it is answered. Returns the index at which its answer begins.
-    #[inline]
-    fn begin(&self, out: &Output) -> usize {
-        self.pass();
-        out.len()
-    }
-
     /// Counts a line.
-    pub(crate) fn pass(&self) {
+    fn pass(&self) {
         self.lines.set(self.lines.get().wrapping_add(1));
-    }
-
-    /// Notes the answer to a line, which begins at `start`.
-    #[inline]
-    fn end(&self, line: &[u8], out: &Output, start: usize, is_fault: bool) {
-        if is_fault {
-            self.refuse(line, out.as_bytes().get(start..).unwrap_or(&[]));
-        }
     }
 
     /// Notes that the last counted line is refused with this answer.
@@ -181,44 +165,6 @@ impl Watch {
     fn refuse_input(&self, input: &[u8], answer: &[u8]) {
         self.refusals.set(Refusals::of_input(input, answer));
     }
-}
-
-/// A rule with a watch over its refusals.
-pub trait Watched {
-    /// Returns what is known about the lines.
-    fn watch(&self) -> &Watch;
-}
-
-impl Watched for WatchedBlocks {
-    fn watch(&self) -> &Watch {
-        &self.watch
-    }
-}
-
-impl Watched for WatchedLines {
-    fn watch(&self) -> &Watch {
-        &self.watch
-    }
-}
-
-impl Watched for WatchedEnclosures {
-    fn watch(&self) -> &Watch {
-        &self.watch
-    }
-}
-
-/// The rule of lines, with a watch over its refusals.
-#[derive(Drop)]
-pub struct WatchedLines {
-    /// What is known about the lines.
-    pub watch: Watch,
-}
-
-/// The rule of enclosures, with a watch over its refusals.
-#[derive(Drop)]
-pub struct WatchedEnclosures {
-    /// What is known about the lines.
-    pub watch: Watch,
 }
 
 /// The rule of questions about lines, with a watch over its refusals.
@@ -266,7 +212,8 @@ impl<L: Ledger> LineRule<L> for WatchedBlocks {
     ghost Answers = { λ watched. IsLineBlock watched.rule.form watched.rule.question };
 
     fn answer(&self, line: &[u8], out: &mut Output, steps: &mut Steps<L>) -> bool {
-        let start = self.watch.begin(out);
+        self.watch.pass();
+        let start = out.len();
         let is_fault = self.rule.answer(line, out, steps);
         if is_fault {
             let answer = out.as_bytes().get(start..).unwrap_or(&[]);
@@ -286,70 +233,55 @@ impl<L: Ledger> LineRule<L> for WatchedBlocks {
     ghost kept_law = { λ watched. long_by_its_prefix watched.rule.form watched.rule.question };
 }
 
-impl<L: Ledger> LineRule<L> for WatchedLines {
-    ghost use Rattle.std.proofs.Common.{lit<};
-    ghost use Rattle.fixed_respell.specs.Answer.{IsAnswer};
-    ghost use Rattle.fixed_respell.specs.Lemmas.AnswerLemmas.{answer_one, long_by_its_prefix};
-
-    const PER_BYTE: u64 = 8;
-
-    const EXTRA: u64 = 624;
-
-    const MAX_ANSWER: usize = MAX_ANSWER;
-
-    ghost PER_BYTE = { 8 };
-
-    ghost EXTRA = { 624 };
-
-    ghost MAX_ANSWER = { 192 };
-
-    ghost Answers = { λ watched. IsAnswer };
-
-    fn answer(&self, line: &[u8], out: &mut Output, steps: &mut Steps<L>) -> bool {
-        let start = self.watch.begin(out);
-        let is_fault = append_answer(line, out, steps);
-        self.watch.end(line, out, start, is_fault);
-        is_fault
-    }
-
-    ghost room_law = { lit< tt };
-
-    ghost one_law = { λ watched. answer_one };
-
-    ghost kept_law = { λ watched. long_by_its_prefix };
+/// The rule of questions about lines as people write them: a skipped line is answered with an empty one.
+#[derive(Drop)]
+pub struct LaidOutBlocks {
+    /// The rule for a line without blanks.
+    pub rule: WatchedBlocks,
+    /// What a line has besides its numeral.
+    pub layout: Layout,
 }
 
-impl<L: Ledger> LineRule<L> for WatchedEnclosures {
+impl<L: Ledger> LineRule<L> for LaidOutBlocks {
     ghost use Rattle.std.proofs.Common.{lit<};
-    ghost use Rattle.fixed_enclose.specs.Answer.{IsAnswer};
-    ghost use Rattle.fixed_enclose.specs.Lemmas.AnswerLemmas.{answer_one, long_by_its_prefix};
+    ghost use Rattle.fixed_command.specs.Layout.{AnswersLaidOut};
+    ghost use Rattle.fixed_command.specs.LineBlocks.{IsLineBlock};
+    ghost use Rattle.fixed_command.specs.Lemmas.BlockLemmas.{line_block_one, long_by_its_prefix};
+    ghost use Rattle.fixed_command.specs.Lemmas.LaidLineLemmas.{laid_answer_kept, laid_answer_one};
 
-    const PER_BYTE: u64 = 16;
+    const PER_BYTE: u64 = 26;
 
-    const EXTRA: u64 = 1248;
+    const EXTRA: u64 = 3307;
 
-    const MAX_ANSWER: usize = MAX_ANSWER;
+    const MAX_ANSWER: usize = MAX_OBJECT;
 
-    ghost PER_BYTE = { 16 };
+    ghost PER_BYTE = { 26 };
 
-    ghost EXTRA = { 1248 };
+    ghost EXTRA = { 3307 };
 
-    ghost MAX_ANSWER = { 192 };
+    ghost MAX_ANSWER = { 8000 };
 
-    ghost Answers = { λ watched. IsAnswer };
+    ghost Answers = { λ laid. AnswersLaidOut laid.layout (IsLineBlock laid.rule.rule.form laid.rule.rule.question) };
 
     fn answer(&self, line: &[u8], out: &mut Output, steps: &mut Steps<L>) -> bool {
-        let start = self.watch.begin(out);
-        let is_fault = append_enclosure(line, out, steps);
-        self.watch.end(line, out, start, is_fault);
-        is_fault
+        if line.len() > MAX_LINE {
+            return self.rule.answer(line, out, steps);
+        }
+        if self.layout.is_skipped(line) {
+            self.rule.watch.pass();
+            return false;
+        }
+        self.rule
+            .answer(self.layout.without_blanks(line), out, steps)
     }
 
     ghost room_law = { lit< tt };
 
-    ghost one_law = { λ watched. answer_one };
+    ghost one_law = { λ laid. laid_answer_one laid.layout (IsLineBlock laid.rule.rule.form laid.rule.rule.question)
+        (line_block_one laid.rule.rule.form laid.rule.rule.question) };
 
-    ghost kept_law = { λ watched. long_by_its_prefix };
+    ghost kept_law = { λ laid. laid_answer_kept laid.layout (IsLineBlock laid.rule.rule.form laid.rule.rule.question)
+        (long_by_its_prefix laid.rule.rule.form laid.rule.rule.question) };
 }
 
 /// A rule of whole inputs, with a watch over its refusals.

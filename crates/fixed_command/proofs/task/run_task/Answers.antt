@@ -59,3 +59,9 @@ returns-in-Errors-clause-reports g c = rw c.in-Errors.is c.run_errors.ensures.re
 
 pub returns-in-Enclose-clause-reports : goal.returns-in-Enclose-clause-reports
 returns-in-Enclose-clause-reports g c = rw c.in-Enclose.is c.run_enclosures.ensures.reports
+
+pub returns-in-LaidOutLines-clause-reports : goal.returns-in-LaidOutLines-clause-reports
+returns-in-LaidOutLines-clause-reports g c = rw c.in-LaidOutLines.is c.run_laid_words.ensures.reports
+
+pub returns-in-LaidOutEnclose-clause-reports : goal.returns-in-LaidOutEnclose-clause-reports
+returns-in-LaidOutEnclose-clause-reports g c = rw c.in-LaidOutEnclose.is c.run_laid_enclosures.ensures.reports
