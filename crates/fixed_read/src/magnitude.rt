@@ -10,10 +10,10 @@ ghost use Rattle.fixed_read.specs.Inner.Rounding.{IsFractionUlps, IsMagnitude, I
 
 use crate::decimal::decimal_ulps;
 use crate::digits::{is_over, number_mod_power};
-use crate::lost_fraction::{is_nothing, is_zero};
+use crate::lost_fraction::{is_nothing, is_zero, lost_increment};
 use crate::power_of_two_radix::bit_fraction_ulps;
 use crate::shifts::{is_some, shl, split_bits};
-use fixed_bits::{LostFraction, ReadMode, rounding_increment, share_increment};
+use fixed_bits::{LostFraction, ReadMode, share_increment};
 use fixed_numeral::{DigitView, Radix, Scanned};
 use fixed_steps::Steps;
 use std::sync::ledger::Ledger;
@@ -36,7 +36,7 @@ pub fn rounded_ulps(count: u128, lost: LostFraction, mode: ReadMode) -> Ulps
     ensures { (num den frac : ℕ) → 0 < den → IsSplitUlps num den frac count lost
         → IsMagnitude mode (record { num = num; den = den }) frac result }
 {
-    let total = count + u128::from(rounding_increment(lost, (count % 2) as u64, mode));
+    let total = count + u128::from(lost_increment(lost, (count % 2) as u64, mode));
     let (high, low) = split_bits(total, 64);
     Ulps {
         low,
@@ -87,7 +87,7 @@ fn rounded_magnitude<'a, L: Ledger>(
 {
     let (low, over) = number_mod_power(whole, base, 64_u32.saturating_sub(fraction_bits), steps);
     let sum = shl(u128::from(low), fraction_bits) + more;
-    let total = sum + u128::from(rounding_increment(lost, (sum % 2) as u64, mode));
+    let total = sum + u128::from(lost_increment(lost, (sum % 2) as u64, mode));
     let (high, bits) = split_bits(total, 64);
     Ulps {
         low: bits,
