@@ -19,6 +19,7 @@ mod RestLemmas
 mod BlockLemmas
 mod ScaleLemmas
 mod PlacesLemmas
+mod ExactLemmas
 mod PaddingLemmas
 mod StyledLemmas
 mod LeadingLemmas

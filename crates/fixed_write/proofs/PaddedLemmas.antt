@@ -18,13 +18,13 @@ ten_pos : (k : ℕ) → 0 < 10 ^ k
 ten_pos k = one-le-pow k 10 (omega arith)
 
 -- ---- the same decimal with more or fewer trailing zeros
-moved : (a b n m : ℕ) → a ≤ b → n * 10 ^ b ≡ m * 10 ^ a → m ≡ n * 10 ^ (b - a)
+pub moved : (a b n m : ℕ) → a ≤ b → n * 10 ^ b ≡ m * 10 ^ a → m ≡ n * 10 ^ (b - a)
 moved a b n m l e =
     let all : (b - a) + a ≡ b = omega arith in
     let split : 10 ^ b ≡ 10 ^ (b - a) * 10 ^ a = ap (λ i. 10 ^ i) (sym all) ∙ pow-add 10 (b - a) a in
     eq_of_mul-eq-mul_right (10 ^ a) (ten_pos a) m (n * 10 ^ (b - a)) (omega (arith, e, ap (λ x. n * x) split))
 
-ends_in_zero : (n d : ℕ) → 0 < d → n * 10 ^ d % 10 ≡ 0
+pub ends_in_zero : (n d : ℕ) → 0 < d → n * 10 ^ d % 10 ≡ 0
 ends_in_zero n zero p = absurd (omega arith)
 ends_in_zero n (suc d) p = rw pow-suc (omega arith)
 

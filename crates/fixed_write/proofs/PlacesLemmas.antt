@@ -300,6 +300,9 @@ exact_short negative b u c k g two small few =
     below : (c s n : ℕ) → 0 < s → n ≤ c * s → n < (c + 1) * s
     below c s n p l = omega arith
 
-pub exact_length : (base : Base) (v : ℤ) (g : ℕ) → IsWide v → g ≤ 64 → length (exact_text (number_of base) (has_capitals base) v g) ≤ 130
+pub exact_length_of : (b : ℕ) (u : Bool) (v : ℤ) (g : ℕ) → 2 ≤ b → IsEven b → unsigned_abs v < 2 ^ 64 → g ≤ 64 → length (exact_text b u v g) ≤ 130
 unfolding exact_text
-exact_length base v g h l = exact_short (is_negative v) (number_of base) (has_capitals base) (unsigned_abs v) (exact_places (number_of base) (unsigned_abs v) g) g (base_low base) (wide_magnitude v h) (omega (arith, exact_within (number_of base) (unsigned_abs v) g (base_even base)))
+exact_length_of b u v g two even small l = exact_short (is_negative v) b u (unsigned_abs v) (exact_places b (unsigned_abs v) g) g two small (omega (arith, exact_within b (unsigned_abs v) g even))
+
+pub exact_length : (base : Base) (v : ℤ) (g : ℕ) → IsWide v → g ≤ 64 → length (exact_text (number_of base) (has_capitals base) v g) ≤ 130
+exact_length base v g h l = exact_length_of (number_of base) (has_capitals base) v g (base_low base) (base_even base) (wide_magnitude v h) l

@@ -2,13 +2,14 @@
 
 ghost use Rattle.std.specs.Prelude.{◌≡◌, ◌+◌, ◌*◌, ◌^◌, ◌≤◌, ◌++◌, false, length};
 ghost use Rattle.std.specs.Str.{IsAscii};
+ghost use Rattle.fixed_bits.specs.Numbers.{with_sign};
 ghost use Rattle.fixed_bits.specs.Ranges.{IsWide};
 ghost use Rattle.fixed_write.specs.Places.{IsRoundedText, IsExactText, rounded_text, exact_text};
 ghost use Rattle.fixed_write.specs.Inner.Digits.{AppendsExact};
 ghost use Rattle.fixed_write.specs.Bases.{number_of, has_capitals};
 
-use crate::places::{Split, push_exact_in, push_rounded_in, split_of};
-use crate::printer::{magnitude_of, push_sign};
+use crate::places::{Split, push_exact_decimal, push_exact_in, push_rounded_in, split_of};
+use crate::printer::{is_below_zero, magnitude_of, push_sign};
 use fixed_bits::{ReadMode, magnitude_mode_of};
 use text_buffer::TextBuffer;
 
@@ -64,6 +65,26 @@ pub fn push_exact<const N: usize>(out: &mut TextBuffer<N>, value: i128, frac: u3
     push_exact_digits(out, split, base);
 }
 
+/// Appends the number of ulps of 2^-`frac` with this sign and magnitude exactly in decimal, as `push_exact` does.
+#[inline]
+pub fn push_signed_exact<const N: usize>(
+    out: &mut TextBuffer<N>,
+    negative: bool,
+    magnitude: u64,
+    frac: u32,
+)
+    requires frac { frac ≤ 64 }
+    requires room { length out.old + 130 ≤ N }
+    ensures appended { out.new ≡ out.old ++ exact_text 10 false (with_sign negative magnitude) frac }
+    ensures exact { IsExactText 10 false (with_sign negative magnitude) frac
+        (exact_text 10 false (with_sign negative magnitude) frac) }
+    ensures short { length (exact_text 10 false (with_sign negative magnitude) frac) ≤ 130 }
+    ensures ascii { IsAscii (exact_text 10 false (with_sign negative magnitude) frac) }
+{
+    push_sign(out, is_below_zero(negative, magnitude));
+    push_exact_decimal(out, split_of(magnitude, frac));
+}
+
 /// Appends a value exactly in a base.
 fn push_exact_digits<const N: usize>(out: &mut TextBuffer<N>, value: Split, base: Base)
     requires { length out.old + 129 ≤ N }
@@ -72,7 +93,7 @@ fn push_exact_digits<const N: usize>(out: &mut TextBuffer<N>, value: Split, base
     match base {
         Base::Bin => push_exact_in::<2, N>(out, value, false),
         Base::Oct => push_exact_in::<8, N>(out, value, false),
-        Base::Dec => push_exact_in::<10, N>(out, value, false),
+        Base::Dec => push_exact_decimal(out, value),
         Base::LowerHex => push_exact_in::<16, N>(out, value, false),
         Base::UpperHex => push_exact_in::<16, N>(out, value, true),
     }

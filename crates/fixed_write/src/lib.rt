@@ -16,7 +16,7 @@ mod styled_text;
 pub mod text;
 mod uncounted;
 
-pub use in_place::{Base, push_decimal, push_exact};
+pub use in_place::{Base, push_decimal, push_exact, push_signed_exact};
 pub use integer::{push_integer, push_signed_integer};
 pub use printer::{push_shortest, push_signed_shortest};
 pub use short::{ShortText, shortest};

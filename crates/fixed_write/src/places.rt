@@ -1,6 +1,6 @@
 //! The digits of a value in a base, to a count of places or exactly.
 
-ghost use Rattle.std.specs.Prelude.{◌≡◌, ◌+◌, ◌*◌, ◌/◌, ◌%◌, ◌-◌, ◌^◌, ◌<◌, ◌≤◌, ◌++◌, [], ◌∷◌, ◌⊎◌, ◌==◌};
+ghost use Rattle.std.specs.Prelude.{◌≡◌, ◌+◌, ◌*◌, ◌/◌, ◌%◌, ◌-◌, ◌^◌, ◌<◌, ◌≤◌, ◌++◌, ◌⊎◌, ◌==◌};
 ghost use Rattle.std.specs.Prelude.{false, if◌then◌else◌, length};
 ghost use Rattle.fixed_bits.specs.LostFractions.{IsLostFraction};
 ghost use Rattle.fixed_bits.specs.Nearest.{IsEven};
@@ -9,7 +9,7 @@ ghost use Rattle.fixed_write.specs.Texts.{last_digits};
 ghost use Rattle.fixed_write.specs.Inner.Digits.{IsBlock, AppendsRounded, AppendsExact};
 
 use crate::base::{push_digit, push_last_in, push_whole_in};
-use crate::digits::power_of_ten;
+use crate::digits::{power_of_ten, push_reduced, push_whole};
 use crate::printer::{HALF, is_raised, rest_of, scaled, whole_of};
 use fixed_bits::{LostFraction, ReadMode, rounding_increment};
 use text_buffer::TextBuffer;
@@ -213,4 +213,32 @@ pub(crate) fn push_exact_in<const BASE: u64, const N: usize>(
             left = next;
         }
     }
+}
+
+/// Five to the power of sixteen.
+const FIVES: u64 = 152_587_890_625;
+
+/// Appends the value exactly in decimal: up to sixteen digits after the point at once, as many as a fraction of sixteen
+/// bits has at most.
+#[inline]
+pub(crate) fn push_exact_decimal<const N: usize>(out: &mut TextBuffer<N>, value: Split)
+    requires { length out.old + 129 ≤ N }
+    ensures { AppendsExact 10 false (value.whole * 2 ^ 64 + value.rest) 64 out.old out.new }
+{
+    if value.rest % (1 << 48) == 0 {
+        push_whole(out, value.whole);
+        push_reduced(out, (value.rest >> 48) * FIVES);
+    } else {
+        push_long_exact(out, value);
+    }
+}
+
+/// Appends the value exactly in decimal, with one place for each binary digit of its rest.
+fn push_long_exact<const N: usize>(out: &mut TextBuffer<N>, value: Split)
+    requires some { 0 < value.rest }
+    requires room { length out.old + 129 ≤ N }
+    ensures { AppendsExact 10 false (value.whole * 2 ^ 64 + value.rest) 64 out.old out.new }
+{
+    let places = 64 - value.rest.trailing_zeros();
+    push_rounded_in::<10, 19, N>(out, value, places, false, ReadMode::TowardsZero);
 }
