@@ -1,5 +1,6 @@
 -- From a reading through the source to the target.
-use Rattle.std.proofs.Common.{◌≡◌, ℕ, ◌⊎◌, ◌↔◌, Bool, true, false, IsTrue, List, refl, subst, ⊎_elim, inl, inr, ℤ}
+use Rattle.std.proofs.Common.{◌≡◌, ℕ, ◌⊎◌, ◌↔◌, ◌||◌, Bool, true, false, IsTrue, List, refl, subst, ⊎_elim, inl, inr, ℤ}
+use Rattle.std.proofs.lemmas.Bool.{false≢true}
 use Rattle.fixed_bits.specs.Down.{down}
 use Rattle.fixed_bits.specs.Formats.{FormatParts}
 use Rattle.fixed_bits.specs.Images.{IsImage, IsOutOfRangeBy}
@@ -62,17 +63,15 @@ refused mode r bytes policy source target found b false u kind is overflow image
     none mode r bytes policy source target found kind is overflow why.0 (inr (subst (λ c. IsOutOfRange target.signed target.width (down c source.frac target.frac)) exact.same past))
 
 -- the bits that are reached
-either_out : (e o u A B : Type 0) → e ↔ (o ⊎ u) → o ↔ A → u ↔ B → e ↔ (A ⊎ B)
-either_out e o u A B w a b = (
-  (λ t. ⊎_elim (λ x. inl (a.0 x)) (λ x. inr (b.0 x)) (w.0 t)),
-  (λ y. w.1 (⊎_elim (λ x. inl (a.1 x)) (λ x. inr (b.1 x)) y)),
-)
+either_out : (o u : Bool) (A B : Type 0) → (IsTrue o ↔ A) → (IsTrue u ↔ B) → IsTrue (o || u) ↔ (A ⊎ B)
+either_out true u A B a b = ((λ _. inl (a.0 refl)), (λ _. refl))
+either_out false u A B a b = ((λ t. inr (b.0 t)), ⊎_elim (λ x. absurd (false≢true (a.1 x))) b.1)
 
-pub respelled : (mode : ReadMode) (r : Radix) (bytes : List ℕ) (policy : Policy) (source target : FormatParts) (found : ReadNumber) (b c : ℤ) (o u e : Bool) (is : IsRead mode r bytes source found)
+pub respelled : (mode : ReadMode) (r : Radix) (bytes : List ℕ) (policy : Policy) (source target : FormatParts) (found : ReadNumber) (b c : ℤ) (o u : Bool) (is : IsRead mode r bytes source found)
     → IsImage policy source.signed source.width is.number b → (IsTrue o ↔ IsOutOfRangeBy policy source.signed source.width is.number)
-    → IsImage policy target.signed target.width (down b source.frac target.frac) c → (IsTrue u ↔ IsOutOfRangeBy policy target.signed target.width (down b source.frac target.frac)) → (IsTrue e ↔ (IsTrue o ⊎ IsTrue u)) → IsRespelled mode r bytes policy source target c e
-respelled mode r bytes policy source target found b c o u e is image flag moved out or =
-    let reached : IsReached mode r is.parts policy source target c e = record {
+    → IsImage policy target.signed target.width (down b source.frac target.frac) c → (IsTrue u ↔ IsOutOfRangeBy policy target.signed target.width (down b source.frac target.frac)) → IsRespelled mode r bytes policy source target c (o || u)
+respelled mode r bytes policy source target found b c o u is image flag moved out =
+    let reached : IsReached mode r is.parts policy source target c (o || u) = record {
       number = is.number;
       in_source = b;
       moved = down b source.frac target.frac;
@@ -80,6 +79,6 @@ respelled mode r bytes policy source target found b c o u e is image flag moved 
       source_image = image;
       down = down_is b source.frac target.frac;
       target_image = moved;
-      flag = either_out (IsTrue e) (IsTrue o) (IsTrue u) _ _ or flag out;
+      flag = either_out o u _ _ flag out;
     } in
     record { parts = is.parts; numeral = is.numeral; reached = reached }

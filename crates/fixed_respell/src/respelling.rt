@@ -1,6 +1,6 @@
 //! A numeral through two formats, from its bytes to its shortest text.
 
-ghost use Rattle.std.specs.Prelude.{◌≡◌, ◌↔◌, ◌⊎◌, ◌≤◌, ◌+◌, ◌-◌, ◌*◌, ℤ, Bool, IsTrue, IsOk, IfOk, IfErr, drop};
+ghost use Rattle.std.specs.Prelude.{◌≡◌, ◌↔◌, ◌≤◌, ◌+◌, ◌-◌, ◌*◌, ℤ, Bool, IsOk, IfOk, IfErr, drop};
 ghost use Rattle.std.specs.Prelude.{length};
 ghost use Rattle.fixed_bits.specs.Numbers.{number_of_image};
 ghost use Rattle.fixed_bits.specs.Ranges.{IsInRange, IsWide};
@@ -192,16 +192,8 @@ pub(crate) fn reach<L: Ledger>(
     Ok(Image {
         negative: reached.negative,
         magnitude: reached.magnitude,
-        is_out_of_range: is_either(in_source.is_out_of_range, reached.is_out_of_range),
+        is_out_of_range: in_source.is_out_of_range | reached.is_out_of_range,
     })
-}
-
-/// Whether one of two holds.
-#[inline]
-fn is_either(a: bool, b: bool) -> bool
-    ensures { IsTrue result ↔ (IsTrue a ⊎ IsTrue b) }
-{
-    a || b
 }
 
 /// Returns a number in a format's range as bits by the format's sign rule.

@@ -164,8 +164,7 @@ fn has_ends(name: &[u8], start: u64, end: u64) -> bool
 }
 
 /// Returns the mode of this name, one of the four that a line can name.
-// A call: inlined, it costs each line without a mode two instructions, which clear room for the answer.
-#[inline(never)]
+#[inline(always)]
 fn named_mode(name: &[u8]) -> Option<ReadMode>
     ensures { MatchOption result ((m : ReadMode) → ¬ IsModeWord name.now m) (λ m. IsModeWord name.now m) }
 {

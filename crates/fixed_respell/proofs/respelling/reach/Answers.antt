@@ -1,4 +1,4 @@
-use Rattle.std.proofs.Common.{ℤ, ◌↔◌, IsTrue, sym, ◌∙◌, inl, inr, refl, arith}
+use Rattle.std.proofs.Common.{ℤ, ◌↔◌, ◌||◌, IsTrue, sym, ◌∙◌, inl, inr, refl, arith}
 use Rattle.std.proofs.lemmas.Bool.{false≢true}
 use Rattle.fixed_bits.specs.Down.{down}
 use Rattle.fixed_bits.specs.Images.{IsImage, IsOutOfRangeBy}
@@ -39,7 +39,7 @@ returns-clause-reached g c =
     let out : IsTrue target.result.is_out_of_range ↔ IsOutOfRangeBy t.policy t.target.signed t.target.width (down in_source t.source.frac t.target.frac) = rw c.frac-source_frac.ensures.frac at target.ensures.verdict in
     let source_image = source.ensures.image is.number holds (λ w. absurd (false≢true (sym c.if-is_refused.false ∙ c.is_refused.ensures.1 (w.0, inl w.1)))) in
     let target_image : IsImage t.policy t.target.signed t.target.width (down in_source t.source.frac t.target.frac) (number_of_image target.result) = rw c.frac-source_frac.ensures.frac at (target.ensures.image (λ w. absurd (false≢true (sym c.if-is_refused.false ∙ c.is_refused.ensures.1 (w.0, inr w.1))))) in
-    respelled t.mode t.radix t.numeral.now t.policy t.source t.target found.found in_source (number_of_image target.result) source.result.is_out_of_range target.result.is_out_of_range c.is_either.result is source_image (source.ensures.flag is.number holds) target_image out c.is_either.ensures
+    respelled t.mode t.radix t.numeral.now t.policy t.source t.target found.found in_source (number_of_image target.result) source.result.is_out_of_range target.result.is_out_of_range is source_image (source.ensures.flag is.number holds) target_image out
 
 pub returns-clause-wide : goal.returns-clause-wide
 returns-clause-wide g c =
@@ -48,7 +48,7 @@ returns-clause-wide g c =
     in_wide f.signed f.width (number_of_image target.result) (width_most f.width target.ensures.valid.is_width) target.ensures.range
 
 pub returns-clause-ok : goal.returns-clause-ok
-returns-clause-ok g c = ((λ _. (_, c.is_either.result, returns-clause-reached g c)), λ _. refl)
+returns-clause-ok g c = ((λ _. (_, (c.image-in_source.result.is_out_of_range || c.reformat_signed-reached.result.is_out_of_range), returns-clause-reached g c)), λ _. refl)
 
 pub returns-in_err-found-clause-cost : goal.returns-in_err-found-clause-cost
 returns-in_err-found-clause-cost g c = omega (arith, rw c.requires.ending at c.read_ending.ensures.cost, width_most c.args.task.now.source.width c.frac-source_frac.ensures.valid.is_width)
