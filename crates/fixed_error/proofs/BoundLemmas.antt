@@ -100,6 +100,23 @@ small_by unit whole e false h k l = record { whole = omega (arith, k); one = ome
 pub small_bound : (g : Gap) (e : ℕ) → g.unit ≤ 2 ^ 67 → g.whole ≤ 2 ^ 67 → e ≤ 67 → IsSmallSum (sum_of (less_part g) (record { whole = 0; factor = 2 ^ e }))
 small_bound g e h k most = small_by g.unit g.whole e g.is_rounded_up h k (pow-le-pow_right (omega arith) most)
 
+-- the greater part of one gap and the lesser of another
+greater_sum_by : (u w v x : ℕ) (up down : Bool) → u ≤ 2 ^ 67 → w ≤ 2 ^ 67 → v ≤ 2 ^ 67 → x ≤ 2 ^ 67
+    → IsSmallSum (sum_of (greater_part (record { unit = u; whole = w; is_rounded_up = up })) (less_part (record { unit = v; whole = x; is_rounded_up = down })))
+greater_sum_by u w v x true true h k l m = record { whole = omega (arith, k); one = omega arith; other = l }
+greater_sum_by u w v x true false h k l m = record { whole = omega (arith, k, m); one = omega arith; other = omega arith }
+greater_sum_by u w v x false true h k l m = record { whole = omega arith; one = h; other = l }
+greater_sum_by u w v x false false h k l m = record { whole = omega (arith, m); one = h; other = omega arith }
+
+pub greater_sum_small : (a b : Gap) → a.unit ≤ 2 ^ 67 → a.whole ≤ 2 ^ 67 → b.unit ≤ 2 ^ 67 → b.whole ≤ 2 ^ 67 → IsSmallSum (sum_of (greater_part a) (less_part b))
+greater_sum_small a b h k l m = greater_sum_by a.unit a.whole b.unit b.whole a.is_rounded_up b.is_rounded_up h k l m
+
+-- the lesser part of one gap and the greater of another: the same with the factors the other way round
+pub less_sum_small : (a b : Gap) → a.unit ≤ 2 ^ 67 → a.whole ≤ 2 ^ 67 → b.unit ≤ 2 ^ 67 → b.whole ≤ 2 ^ 67 → IsSmallSum (sum_of (less_part a) (greater_part b))
+less_sum_small a b h k l m =
+    let s = greater_sum_small b a l m h k in
+    record { whole = omega (arith, s.whole); one = s.other; other = s.one }
+
 above_of : (d den m e u : ℕ) → m * u * (1 * den) < d * (1 * e) → m * (u * den) < d * e
 above_of d den m e u h = omega (arith, h)
 

@@ -7,7 +7,7 @@
 //! those. The words that were passed over are kept, since many lists have few words.
 
 ghost use Rattle.std.specs.Prelude.{◌≡◌, ◌<◌, ◌≤◌, ◌+◌, ◌-◌, ◌^◌, ◌++◌, ◌∷◌, [], List, ℕ, OnOk, IfOk, IfSome};
-ghost use Rattle.std.specs.Prelude.{length, replicate, true, false, min, ◌||◌};
+ghost use Rattle.std.specs.Prelude.{length, replicate, true, false, min};
 ghost use Rattle.fixed_bits.specs.declared.mode.ReadMode.TheVariants.{NearestEven};
 ghost use Rattle.fixed_error.specs.ErrorSize.{IsReadWithin};
 ghost use Rattle.fixed_numeral.specs.Numeral.{IsNumeral};
@@ -106,13 +106,6 @@ fn slot_of(word: u64) -> usize
     ensures { result < 1024 }
 {
     (binary_digits(word) >> 54) as usize
-}
-
-/// Whether one of two holds.
-fn is_either(one: bool, other: bool) -> bool
-    ensures { result ≡ (one || other) }
-{
-    one || other
 }
 
 /// Returns the error at a fraction length before the first numeral.
@@ -283,7 +276,7 @@ impl GreatestErrors {
         let mut is_changed = false;
         for error in self.errors.iter_mut() {
             let changes = error.add(numeral, place, rest, steps)?;
-            is_changed = is_either(is_changed, changes);
+            is_changed |= changes;
             rest = halved(rest);
         }
         if !is_changed {

@@ -71,7 +71,7 @@ loop-error-preserved g c =
     record {
       rest = subst (λ f. IsRest c.args.self.now.radix f c.args.numeral.now c.halved-rest.result) next (rest_halved c.args.self.now.radix k c.args.numeral.now c.loop-error.rest c.halved-rest.result inv.rest c.halved-rest.ensures.one c.halved-rest.ensures.rest c.halved-rest.ensures.below c.halved-rest.ensures.slack);
       same = λ is.
-          let either = neither c.loop-error.is_changed c.in_ok-changes.changes (sym c.is_either-is_changed.ensures ∙ is) in
+          let either = neither c.loop-error.is_changed c.in_ok-changes.changes is in
           unchanged items initial k c.error-item.result new (c.in_ok-changes.ensures.same either.1) (inv.same either.0);
       long = length-set items k new ∙ inv.long;
       left = drop-set-lt (k + 1) items k new (omega arith) ∙ left_one_less items initial k inv.left;
