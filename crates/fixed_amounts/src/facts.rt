@@ -1,13 +1,13 @@
 //! The facts of an amount, of a count of units, and of a decimal format, in lines for people or as members of a JSON
 //! object.
 
-ghost use Rattle.std.specs.Prelude.{◌≡◌, ◌+◌, ◌*◌, ◌≤◌, ◌++◌, codes, length};
+ghost use Rattle.std.specs.Prelude.{◌≡◌, ◌+◌, ◌*◌, ◌≤◌, ◌++◌, IfSome, codes, is_some, length};
 ghost use Rattle.fixed_amounts.specs.Facts.{AreFacts, IsAmountBlock, IsAmountObject, format_facts, values};
 ghost use Rattle.fixed_amounts.specs.Names.{name_text};
 ghost use Rattle.fixed_amounts.specs.Reply.{unit_word};
 ghost use Rattle.fixed_decimal.specs.Texts.{decimal_format_text};
 ghost use Rattle.fixed_show.specs.Blocks.{Appends, hex_text};
-ghost use Rattle.fixed_show.specs.Forms.{fact};
+ghost use Rattle.fixed_show.specs.Forms.{fact, refusal};
 ghost use Rattle.fixed_show.specs.JsonText.{object_text};
 ghost use Rattle.fixed_show.specs.ShowBlock.{range_text};
 ghost use Rattle.fixed_show.specs.declared.form.Form.TheVariants.{Lines, Members};
@@ -98,7 +98,7 @@ fn range_word(overflowed: bool) -> &'static [u8]
     if overflowed { b"overflowed" } else { b"fits" }
 }
 
-/// Appends the amount that a numeral is read as, or why it is refused. Returns whether it is refused.
+/// Appends the amount that a numeral is read as, or why it is refused. Returns that message if it is refused.
 fn push_numeral<const N: usize, L: Ledger>(
     out: &mut TextBuffer<N>,
     form: Form,
@@ -107,10 +107,11 @@ fn push_numeral<const N: usize, L: Ledger>(
     policy: Policy,
     mode: ReadMode,
     steps: &mut Steps<L>,
-) -> bool
+) -> Option<&'static str>
     requires room { length out.old + 1607 ≤ N }
-    ensures facts { Appends (AreFacts form (AmountQuestion.Numeral format policy mode) bytes.now result) 1607 out.old
-        out.new }
+    ensures facts { Appends (AreFacts form (AmountQuestion.Numeral format policy mode) bytes.now (is_some result)) 1607
+        out.old out.new }
+    ensures refused { IfSome result (λ m. out.new ≡ out.old ++ refusal form m.now) }
     ensures cost { steps.new ≤ steps.old + 10 * length bytes.now + 1563 }
 {
     match read_decimal(bytes, format, policy, mode, steps) {
@@ -120,47 +121,52 @@ fn push_numeral<const N: usize, L: Ledger>(
             push_values(out, form, amount.units, format);
             push_fact(out, form, b"error", error.as_bytes());
             push_fact(out, form, b"range", range_word(amount.overflowed));
-            false
+            None
         }
         Err(error) => {
-            push_refusal(out, form, error.message());
-            true
+            let message = error.message();
+            push_refusal(out, form, message);
+            Some(message)
         }
     }
 }
 
-/// Appends the amount of a count of units, or why the bytes are not a count. Returns true if they are not.
+/// Appends the amount of a count of units, or why the bytes are not a count. Returns that message if they are not.
 fn push_units<const N: usize>(
     out: &mut TextBuffer<N>,
     form: Form,
     bytes: &[u8],
     format: DecimalFormat,
-) -> bool
+) -> Option<&'static str>
     requires room { length out.old + 1607 ≤ N }
-    ensures facts { Appends (AreFacts form (AmountQuestion.Units format) bytes.now result) 1607 out.old out.new }
+    ensures facts { Appends (AreFacts form (AmountQuestion.Units format) bytes.now (is_some result)) 1607 out.old
+        out.new }
+    ensures refused { IfSome result (λ m. out.new ≡ out.old ++ refusal form m.now) }
 {
     match read_units(bytes) {
         Ok(units) => {
             push_values(out, form, units, format);
-            false
+            None
         }
         Err(fault) => {
-            push_refusal(out, form, fault.message());
-            true
+            let message = fault.message();
+            push_refusal(out, form, message);
+            Some(message)
         }
     }
 }
 
-/// Appends the facts that answer a question about a word. Returns true if they report a fault.
+/// Appends the facts that answer a question about a word. Returns the message of the fault if they report one.
 fn push_facts<const N: usize, L: Ledger>(
     out: &mut TextBuffer<N>,
     form: Form,
     question: &AmountQuestion,
     word: &[u8],
     steps: &mut Steps<L>,
-) -> bool
+) -> Option<&'static str>
     requires room { length out.old + 1607 ≤ N }
-    ensures facts { Appends (AreFacts form question.now word.now result) 1607 out.old out.new }
+    ensures facts { Appends (AreFacts form question.now word.now (is_some result)) 1607 out.old out.new }
+    ensures refused { IfSome result (λ m. out.new ≡ out.old ++ refusal form m.now) }
     ensures cost { steps.new ≤ steps.old + 10 * length word.now + 1563 }
 {
     match question {
@@ -176,15 +182,16 @@ fn push_facts<const N: usize, L: Ledger>(
 /// Appends the block that answers a question about a word. For a numeral or a count of units it has the text of the
 /// amount, the count in decimal and in hexadecimal, and the exact value. For a numeral it also has the exact error,
 /// which is that value less the numeral's, and whether the read number was in range. A refused word gets only one line,
-/// `error: ` and why. Returns true if it is refused. There must be room for `MAX_BLOCK` bytes.
+/// `error: ` and why, and that message is returned. There must be room for `MAX_BLOCK` bytes.
 pub fn amount_block<const N: usize, L: Ledger>(
     question: &AmountQuestion,
     word: &[u8],
     out: &mut TextBuffer<N>,
     steps: &mut Steps<L>,
-) -> bool
+) -> Option<&'static str>
     requires room { length out.old + MAX_BLOCK ≤ N }
-    ensures block { Appends (IsAmountBlock question.now word.now result) MAX_BLOCK out.old out.new }
+    ensures block { Appends (IsAmountBlock question.now word.now (is_some result)) MAX_BLOCK out.old out.new }
+    ensures refused { IfSome result (λ m. out.new ≡ out.old ++ refusal Lines m.now) }
     ensures cost { steps.new ≤ steps.old + 10 * length word.now + 1563 }
 {
     push_facts(out, Form::Lines, question, word, steps)
@@ -197,15 +204,16 @@ pub fn amount_object<const N: usize, L: Ledger>(
     word: &[u8],
     out: &mut TextBuffer<N>,
     steps: &mut Steps<L>,
-) -> bool
+) -> Option<&'static str>
     requires room { length out.old + MAX_OBJECT ≤ N }
-    ensures object { Appends (IsAmountObject question.now word.now result) MAX_OBJECT out.old out.new }
+    ensures object { Appends (IsAmountObject question.now word.now (is_some result)) MAX_OBJECT out.old out.new }
+    ensures refused { IfSome result (λ m. out.new ≡ out.old ++ object_text word.now (refusal Members m.now)) }
     ensures cost { steps.new ≤ steps.old + 10 * length word.now + 1563 }
 {
     push_given(out, word);
-    let is_refused = push_facts(out, Form::Members, question, word, steps);
+    let refused = push_facts(out, Form::Members, question, word, steps);
     out.push(b'}');
-    is_refused
+    refused
 }
 
 /// Appends a fact: the name of a decimal format.

@@ -1,5 +1,5 @@
 -- JSON texts and objects.
-use Rattle.std.proofs.Common.{◌≡◌, ℕ, ◌+◌, ◌<◌, ◌≤◌, List, [], ◌∷◌, ◌++◌, length, take, take_all, ap, ◌∙◌, sym, refl, arith, append_assoc, codes, Bool, true, false, ◌⊎◌, inl, inr, ◌/◌, ◌%◌, nat_lt}
+use Rattle.std.proofs.Common.{◌≡◌, ℕ, ◌+◌, ◌<◌, ◌≤◌, List, [], ◌∷◌, ◌++◌, length, take, take_all, ap, ◌∙◌, sym, refl, arith, append_assoc, codes, Bool, true, false, ◌⊎◌, inl, inr, ◌/◌, ◌%◌, nat_lt, ◌*◌, length-append, length-take, Bor, Option, None, Some, IfSome}
 use Rattle.std.specs.Prelude.{flat_map, ◌==◌, ◌&&◌, ◌||◌, nat_le, if◌then◌else◌}
 use Rattle.std.specs.Fmt.{digit_glyph}
 use Rattle.std.specs.Int.Digits.{AllBelowBase}
@@ -9,12 +9,10 @@ use Rattle.fixed_write.proofs.Public.{last_digits_none, last_digits_suc}
 use Rattle.fixed_bits.specs.Formats.{FormatParts}
 use Rattle.fixed_bits.specs.declared.format.Policy.{Policy}
 use Rattle.fixed_bits.specs.declared.mode.ReadMode.{ReadMode}
-use Rattle.fixed_numeral.specs.Messages.{message_of}
-use Rattle.fixed_numeral.specs.declared.error.ParseErrorKind.{ParseErrorKind}
 use Rattle.fixed_numeral.specs.declared.radix.Radix.{Radix}
 use Rattle.fixed_show.specs.Blocks.{Appends}
 use Rattle.fixed_show.specs.Forms.{refusal}
-use Rattle.fixed_show.specs.ShowBlock.{AreShowFacts, IsShowObject, IsUnread}
+use Rattle.fixed_show.specs.ShowBlock.{AreShowFacts, IsShowObject}
 use Rattle.fixed_show.specs.declared.form.Form.TheVariants.{Members}
 use Rattle.fixed_show.specs.JsonText.{JsonTextIsOneToOne, json_byte, json_text, object_text}
 use Rattle.fixed_show.proofs.LineLemmas.{pushed_length, text_short}
@@ -35,9 +33,6 @@ object_pushed old a b c bytes members p q r =
 pub object_short : (old a b c : List ℕ) (n : ℕ) → length a ≤ length old + 4620 → length b ≤ length a + n → c ≡ b ++ 125 ∷ [] → length c ≤ length old + (4621 + n)
 object_short old a b c n p q r = let s = pushed_length b c (125 ∷ []) 1 r (omega arith) in omega (arith, p, q, s)
 
-pub widened : (Is : List ℕ → Type 0) (m n : ℕ) (before after : List ℕ) → m ≤ n → Appends Is m before after → Appends Is n before after
-widened Is m n before after h t = record { text = t.text; is_text = t.is_text; appended = t.appended; short = omega (arith, h, t.short) }
-
 -- the object of a numeral
 pub show_object : (mode : ReadMode) (r : Radix) (bytes : List ℕ) (f : FormatParts) (policy : Policy) (refused : Bool) (old a b c : List ℕ) → a ≡ old ++ (codes "{\"given\":" ++ json_text (take 768 bytes)) → length a ≤ length old + 4620
     → Appends (AreShowFacts Members mode r bytes f policy refused) 3301 a b → c ≡ b ++ 125 ∷ [] → Appends (IsShowObject mode r bytes f policy refused) 8000 old c
@@ -53,16 +48,11 @@ show_object mode r bytes f policy refused old a b c p q facts e =
       short = text_short old c text 8000 appended (omega (arith, short));
     }
 
-pub refused_facts : (mode : ReadMode) (r : Radix) (bytes : List ℕ) (f : FormatParts) (policy : Policy) (kind : ParseErrorKind) (message a b : List ℕ) → IsUnread mode r bytes f policy kind → message ≡ message_of kind → b ≡ a ++ refusal Members message → length b ≤ length a + 80
-    → Appends (AreShowFacts Members mode r bytes f policy true) 3301 a b
-refused_facts mode r bytes f policy kind message a b unread m e s =
-    let appended : b ≡ a ++ refusal Members (message_of kind) = e ∙ ap (λ t. a ++ refusal Members t) m in
-    record {
-      text = refusal Members (message_of kind);
-      is_text = record { kind = kind; unread = unread; facts_are = refl };
-      appended = appended;
-      short = text_short a b (refusal Members (message_of kind)) 3301 appended (omega (arith, s));
-    }
+-- the object of a refused word, with the message that is returned
+pub object_refused : (old a b c bytes : List ℕ) (message : Option (Bor (List ℕ))) → a ≡ old ++ (codes "{\"given\":" ++ json_text (take 768 bytes)) → IfSome message (λ m. b ≡ a ++ refusal Members m.now) → c ≡ b ++ 125 ∷ []
+    → IfSome message (λ m. c ≡ old ++ object_text bytes (refusal Members m.now))
+object_refused old a b c bytes None p q r = tt
+object_refused old a b c bytes (Some m) p q r = object_pushed old a b c bytes (refusal Members m.now) p q r
 
 -- ---- a JSON text has one meaning
 two_digits : (b : ℕ) → last_digits 16 false 2 b ≡ digit_glyph false (b / 16 % 16) ∷ digit_glyph false (b % 16) ∷ []
@@ -136,6 +126,30 @@ byte_one x y s t h k e = split (written x) (written y)
         let high = glyph_one (x / 16 % 16) (y / 16 % 16) (omega arith) (omega arith) (ap (λ l. head_of (four l)) w) in
         let low = glyph_one (x % 16) (y % 16) (omega arith) (omega arith) (ap (λ l. head_of (tail_of (four l))) w) in
         (omega (arith, h, k, high, low), ap (λ l. tail_of (tail_of (four l))) w)
+
+-- ---- an object is not much longer than its members
+byte_short : (b : ℕ) → length (json_byte b) ≤ 6
+byte_short b = by_form (written b)
+  where
+    by_form : IsEscaped b ⊎ (IsPlain b ⊎ IsNumbered b) → length (json_byte b) ≤ 6
+    by_form (inl a) = omega (arith, ap length a.is)
+    by_form (inr (inl a)) = omega (arith, ap length a.is)
+    by_form (inr (inr a)) = omega (arith, ap length a.is)
+
+bytes_short : (bs : List ℕ) → length (flat_map json_byte bs) ≤ 6 * length bs
+bytes_short [] = omega arith
+bytes_short (b ∷ bs) = omega (arith, byte_short b, bytes_short bs, length-append (json_byte b) (flat_map json_byte bs))
+
+pub object_longer : (bytes members : List ℕ) → (length members ≤ length (object_text bytes members)) × (length (object_text bytes members) ≤ 4621 + length members)
+unfolding object_text json_text
+object_longer bytes members =
+    let given : List ℕ = take 768 bytes in
+    let cut = length-take 768 bytes in
+    let all = bytes_short given in
+    let text = length-append (flat_map json_byte given) (34 ∷ []) in
+    let behind = length-append (34 ∷ (flat_map json_byte given ++ 34 ∷ [])) (members ++ codes "}") in
+    let end = length-append members (codes "}") in
+    (omega (arith, behind, end), omega (arith, cut, all, text, behind, end))
 
 first_byte : (b : ℕ) (s : List ℕ) → head_of (json_byte b ++ s) ≡ 34 → ⊥
 first_byte b s e = by_form (written b)

@@ -15,8 +15,8 @@ use Rattle.fixed_show.specs.Forms.{refusal}
 use Rattle.fixed_show.specs.JsonText.{object_text}
 use Rattle.fixed_show.specs.declared.form.Form.{Form}
 use Rattle.fixed_show.specs.declared.form.Form.TheVariants.{Lines, Members}
-use Rattle.fixed_show.specs.PartLaws.{PartBlockIsTheOne, PartFaultIsTheOne, PartHasNoFault, PartObjectIsTheOne, ReversedTwice, WholeFieldIsTheWord, WholeIsTheWord}
-use Rattle.fixed_show.specs.PartText.{AreBits, ArePartFacts, IsLongWord, IsOrdered, IsPart, WritesBytes, longest, part_message, reach_of, reversed_bytes}
+use Rattle.fixed_show.specs.PartLaws.{PartBlockIsTheOne, PartFaultIsTheOne, PartHasNoFault, PartIsTheOne, PartObjectIsTheOne, ReversedTwice, WholeFieldIsTheWord, WholeIsTheWord}
+use Rattle.fixed_show.specs.PartText.{AreBits, ArePartFacts, IsLongWord, IsOrdered, WritesBytes, longest, part_message, reach_of, reversed_bytes}
 use Rattle.fixed_show.specs.WordText.{HasWordFault, word_digits, word_radix}
 use Rattle.fixed_show.specs.declared.parts.Part.{Part}
 use Rattle.fixed_show.specs.declared.parts.PartFault.TheVariants.{Signed, NoWord, NotBytes, TooWide}
@@ -45,7 +45,7 @@ bits_one : (low : Option ℕ) (w n a b : ℕ) → AreBits low w n a → AreBits 
 bits_one None w n a b x y = x.0 ∙ sym y.0
 bits_one (Some low) w n a b x y = x ∙ sym y
 
-part_one : (bare : Radix) (part : Part) (f : FormatParts) (text : List ℕ) (v w : ℤ) → IsWidth f.width → IsPart bare part f text v → IsPart bare part f text w → v ≡ w
+pub part_one : PartIsTheOne
 part_one bare part f text v w width x y =
     let word : x.word ≡ y.word = word_same bare text x.word y.word x.is_word y.is_word in
     let ordered : x.ordered ≡ y.ordered = ordered_one part.is_reversed bare text (reach_of part f) y.word x.ordered y.ordered (subst (λ n. IsOrdered part.is_reversed bare text (reach_of part f) n x.ordered) word x.is_ordered) y.is_ordered in

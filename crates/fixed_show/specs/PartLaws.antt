@@ -18,6 +18,11 @@ abbrev pub PartHasNoFault : Type 0
 PartHasNoFault = (bare : Radix) (part : Part) (f : FormatParts) (text : List ℕ) (fault : PartFault) (v : ℤ)
     → HasPartFault bare part f text fault → ¬ IsPart bare part f text v
 
+-- a word has at most one number for a part
+abbrev pub PartIsTheOne : Type 0
+PartIsTheOne = (bare : Radix) (part : Part) (f : FormatParts) (text : List ℕ) (v w : ℤ) → IsWidth f.width
+    → IsPart bare part f text v → IsPart bare part f text w → v ≡ w
+
 -- a word has one block for a part of it
 abbrev pub PartBlockIsTheOne : Type 0
 PartBlockIsTheOne = (bare : Radix) (part : Part) (f : FormatParts) (text : List ℕ) (o p : Bool) (a b : List ℕ)

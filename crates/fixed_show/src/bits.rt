@@ -1,11 +1,13 @@
 //! The number that the bits of a register stand for.
 
-ghost use Rattle.std.specs.Prelude.{◌≡◌, ◌+◌, ◌-◌, ◌≤◌, ◌<◌, ◌/◌, ◌++◌, false, pos, length, codes};
+ghost use Rattle.std.specs.Prelude.{◌≡◌, ◌+◌, ◌-◌, ◌≤◌, ◌<◌, ◌/◌, ◌++◌, IfSome, false, pos, is_some, length, codes};
 ghost use Rattle.fixed_bits.specs.Images.{IsWrapped};
 ghost use Rattle.fixed_bits.specs.Ranges.{IsWide};
 ghost use Rattle.fixed_show.specs.Blocks.{Appends, hex_text};
 ghost use Rattle.fixed_show.specs.BitsBlock.{AreBitsFacts, AreValues, IsBitsBlock, IsBitsObject};
-ghost use Rattle.fixed_show.specs.Forms.{fact};
+ghost use Rattle.fixed_show.specs.Forms.{fact, refusal};
+ghost use Rattle.fixed_show.specs.JsonText.{object_text};
+ghost use Rattle.fixed_show.specs.declared.form.Form.TheVariants.{Lines, Members};
 
 use crate::form::{Form, end_byte, push_label};
 use crate::hex::push_hex_digits;
@@ -70,7 +72,7 @@ pub(crate) fn push_values<const N: usize, L: Ledger>(
     push_exact_fact(out, form, b"value", bits, frac);
 }
 
-/// Appends the facts of a word, or why it is refused. Returns true if it is refused.
+/// Appends the facts of a word, or why it is refused. Returns that message if it is refused.
 fn push_bits_facts<const N: usize, L: Ledger>(
     out: &mut TextBuffer<N>,
     form: Form,
@@ -78,26 +80,28 @@ fn push_bits_facts<const N: usize, L: Ledger>(
     bare: Radix,
     format: Format,
     steps: &mut Steps<L>,
-) -> bool
+) -> Option<&'static str>
     requires room { length out.old + 281 ≤ N }
-    ensures facts { Appends (AreBitsFacts form bare format text.now result) 281 out.old out.new }
+    ensures facts { Appends (AreBitsFacts form bare format text.now (is_some result)) 281 out.old out.new }
+    ensures refused { IfSome result (λ m. out.new ≡ out.old ++ refusal form m.now) }
     ensures cost { steps.new ≤ steps.old + 48 }
 {
     match read_word(text, bare, format) {
         Ok(bits) => {
             push_values(out, form, bits, format, steps);
-            false
+            None
         }
         Err(fault) => {
-            push_refusal(out, form, fault.message());
-            true
+            let message = fault.message();
+            push_refusal(out, form, message);
+            Some(message)
         }
     }
 }
 
 /// Appends the block of a word in a format: the shortest text of its number, the bits in decimal and in hexadecimal,
 /// and the exact value. A word without a prefix is in the radix `bare`. A text that is not a word of the format gets
-/// only one line, `error: ` and why. Returns true if it is refused. There must be room for `MAX_BLOCK` bytes. It takes
+/// only one line, `error: ` and why, and that message is returned. There must be room for `MAX_BLOCK` bytes. It takes
 /// at most 48 steps.
 pub fn bits_block<const N: usize, L: Ledger>(
     text: &[u8],
@@ -105,15 +109,16 @@ pub fn bits_block<const N: usize, L: Ledger>(
     format: Format,
     out: &mut TextBuffer<N>,
     steps: &mut Steps<L>,
-) -> bool
+) -> Option<&'static str>
     requires room { length out.old + MAX_BLOCK ≤ N }
-    ensures block { Appends (IsBitsBlock bare format text.now result) MAX_BLOCK out.old out.new }
+    ensures block { Appends (IsBitsBlock bare format text.now (is_some result)) MAX_BLOCK out.old out.new }
+    ensures refused { IfSome result (λ m. out.new ≡ out.old ++ refusal Lines m.now) }
     ensures cost { steps.new ≤ steps.old + 48 }
 {
     push_bits_facts(out, Form::Lines, text, bare, format, steps)
 }
 
-/// Appends the same as a JSON object of at most `MAX_OBJECT` bytes, in which `refused` says why a text is not a word.
+/// Appends the same as a JSON object of at most `MAX_OBJECT` bytes, in which `refused` is the returned message.
 /// Its first member, `given`, has the first 768 bytes of the text. It takes at most 48 steps.
 pub fn bits_object<const N: usize, L: Ledger>(
     text: &[u8],
@@ -121,13 +126,14 @@ pub fn bits_object<const N: usize, L: Ledger>(
     format: Format,
     out: &mut TextBuffer<N>,
     steps: &mut Steps<L>,
-) -> bool
+) -> Option<&'static str>
     requires room { length out.old + MAX_OBJECT ≤ N }
-    ensures object { Appends (IsBitsObject bare format text.now result) MAX_OBJECT out.old out.new }
+    ensures object { Appends (IsBitsObject bare format text.now (is_some result)) MAX_OBJECT out.old out.new }
+    ensures refused { IfSome result (λ m. out.new ≡ out.old ++ object_text text.now (refusal Members m.now)) }
     ensures cost { steps.new ≤ steps.old + 48 }
 {
     push_given(out, text);
-    let is_refused = push_bits_facts(out, Form::Members, text, bare, format, steps);
+    let refused = push_bits_facts(out, Form::Members, text, bare, format, steps);
     out.push(b'}');
-    is_refused
+    refused
 }

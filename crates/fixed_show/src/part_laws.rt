@@ -1,7 +1,12 @@
 //! Laws of parts of words, each the contract of a function that does nothing.
 
-ghost use Rattle.fixed_show.specs.PartLaws.{PartBlockIsTheOne, PartFaultIsTheOne, PartHasNoFault, PartObjectIsTheOne};
-ghost use Rattle.fixed_show.specs.PartLaws.{ReversedTwice, WholeFieldIsTheWord, WholeIsTheWord};
+ghost use Rattle.fixed_show.specs.PartLaws.{PartBlockIsTheOne, PartFaultIsTheOne, PartHasNoFault, PartIsTheOne};
+ghost use Rattle.fixed_show.specs.PartLaws.{PartObjectIsTheOne, ReversedTwice, WholeFieldIsTheWord, WholeIsTheWord};
+
+/// A word has at most one number for a part.
+pub fn part_is_the_one()
+    ensures { PartIsTheOne }
+{}
 
 /// A word has at most one fault for a part, and none if it has the part.
 pub fn part_fault_is_the_one()

@@ -4,15 +4,18 @@
 //! write, in hexadecimal or binary, and not those of the format: a field is taken from a longer word, and nothing else
 //! says how long that is.
 
-ghost use Rattle.std.specs.Prelude.{◌≡◌, ◌+◌, ◌*◌, ◌^◌, ◌≤◌, ◌<◌, ℕ, false, IfOk, length};
+ghost use Rattle.std.specs.Prelude.{◌≡◌, ◌+◌, ◌*◌, ◌^◌, ◌≤◌, ◌<◌, ◌++◌, ℕ, false, IfOk, IfSome, is_some, length};
 ghost use Rattle.std.specs.Prelude.{MatchOption, MatchResult};
 ghost use Rattle.fixed_bits.specs.Ranges.{IsWide};
 ghost use Rattle.fixed_numeral.specs.Literal.{without_underscores};
 ghost use Rattle.fixed_show.specs.Blocks.{Appends};
+ghost use Rattle.fixed_show.specs.Forms.{refusal};
+ghost use Rattle.fixed_show.specs.JsonText.{object_text};
 ghost use Rattle.fixed_show.specs.PartText.{AreBits, ArePartFacts, HasPartFault, IsLongWord, IsOrdered, IsPart};
 ghost use Rattle.fixed_show.specs.PartText.{IsPartBlock, IsPartObject, WritesBytes, long_message, longest};
 ghost use Rattle.fixed_show.specs.PartText.{part_message, reach_of, reversed_bytes};
 ghost use Rattle.fixed_show.specs.WordText.{HasWordFault, has_sign};
+ghost use Rattle.fixed_show.specs.declared.form.Form.TheVariants.{Lines, Members};
 
 use crate::bits::push_values;
 use crate::form::Form;
@@ -192,7 +195,7 @@ pub fn read_part(text: &[u8], bare: Radix, part: Part, format: Format) -> Result
     }
 }
 
-/// Appends the facts of a part of a word, or why there is none. Returns true if there is none.
+/// Appends the facts of a part of a word, or why there is none. Returns that message if there is none.
 fn push_part_facts<const N: usize, L: Ledger>(
     out: &mut TextBuffer<N>,
     form: Form,
@@ -201,25 +204,27 @@ fn push_part_facts<const N: usize, L: Ledger>(
     part: Part,
     format: Format,
     steps: &mut Steps<L>,
-) -> bool
+) -> Option<&'static str>
     requires room { length out.old + 281 ≤ N }
-    ensures facts { Appends (ArePartFacts form bare part format text.now result) 281 out.old out.new }
+    ensures facts { Appends (ArePartFacts form bare part format text.now (is_some result)) 281 out.old out.new }
+    ensures refused { IfSome result (λ m. out.new ≡ out.old ++ refusal form m.now) }
     ensures cost { steps.new ≤ steps.old + 48 }
 {
     match read_part(text, bare, part, format) {
         Ok(bits) => {
             push_values(out, form, bits, format, steps);
-            false
+            None
         }
         Err(fault) => {
-            push_refusal(out, form, fault.message());
-            true
+            let message = fault.message();
+            push_refusal(out, form, message);
+            Some(message)
         }
     }
 }
 
 /// Appends the block of a part of a word, like that of a word, or one line `error: ` and why there is none. Returns
-/// true if there is none. There must be room for `MAX_BLOCK` bytes. It takes at most 48 steps.
+/// that message if there is none. There must be room for `MAX_BLOCK` bytes. It takes at most 48 steps.
 pub fn part_block<const N: usize, L: Ledger>(
     text: &[u8],
     bare: Radix,
@@ -227,9 +232,10 @@ pub fn part_block<const N: usize, L: Ledger>(
     format: Format,
     out: &mut TextBuffer<N>,
     steps: &mut Steps<L>,
-) -> bool
+) -> Option<&'static str>
     requires room { length out.old + MAX_BLOCK ≤ N }
-    ensures block { Appends (IsPartBlock bare part format text.now result) MAX_BLOCK out.old out.new }
+    ensures block { Appends (IsPartBlock bare part format text.now (is_some result)) MAX_BLOCK out.old out.new }
+    ensures refused { IfSome result (λ m. out.new ≡ out.old ++ refusal Lines m.now) }
     ensures cost { steps.new ≤ steps.old + 48 }
 {
     push_part_facts(out, Form::Lines, text, bare, part, format, steps)
@@ -244,13 +250,14 @@ pub fn part_object<const N: usize, L: Ledger>(
     format: Format,
     out: &mut TextBuffer<N>,
     steps: &mut Steps<L>,
-) -> bool
+) -> Option<&'static str>
     requires room { length out.old + MAX_OBJECT ≤ N }
-    ensures object { Appends (IsPartObject bare part format text.now result) MAX_OBJECT out.old out.new }
+    ensures object { Appends (IsPartObject bare part format text.now (is_some result)) MAX_OBJECT out.old out.new }
+    ensures refused { IfSome result (λ m. out.new ≡ out.old ++ object_text text.now (refusal Members m.now)) }
     ensures cost { steps.new ≤ steps.old + 48 }
 {
     push_given(out, text);
-    let is_refused = push_part_facts(out, Form::Members, text, bare, part, format, steps);
+    let refused = push_part_facts(out, Form::Members, text, bare, part, format, steps);
     out.push(b'}');
-    is_refused
+    refused
 }

@@ -1,6 +1,7 @@
 //! Shows a numeral in a format: its bits, its errors, its neighbours and whether it was in range.
 
-ghost use Rattle.std.specs.Prelude.{◌≡◌, ◌↔◌, ◌+◌, ◌*◌, ◌≤◌, ◌++◌, length, codes, IfOk, IfErr, IsTrue, true, false};
+ghost use Rattle.std.specs.Prelude.{◌≡◌, ◌↔◌, ◌+◌, ◌*◌, ◌≤◌, ◌++◌, length, codes, IfOk, IfErr, IfSome, IsTrue};
+ghost use Rattle.std.specs.Prelude.{true, false, is_some};
 ghost use Rattle.std.specs.Fmt.{signed_decimal};
 ghost use Rattle.fixed_bits.specs.Numbers.{number_of_image};
 ghost use Rattle.fixed_bits.specs.Ranges.{IsInRange, IsWide};
@@ -10,9 +11,11 @@ ghost use Rattle.fixed_write.specs.Texts.{IsShortestText, shortest_text};
 ghost use Rattle.fixed_show.specs.Blocks.{Appends};
 ghost use Rattle.fixed_bits.specs.declared.format.Policy.{Policy as PolicyOf};
 ghost use Rattle.fixed_bits.specs.declared.mode.ReadMode.{ReadMode as ReadModeOf};
-ghost use Rattle.fixed_show.specs.Forms.{fact};
-ghost use Rattle.fixed_show.specs.ShowBlock.{HasNoBits, IsBetween, IsReadAs, IsShowBlock, IsShowObject, IsShown};
-ghost use Rattle.fixed_show.specs.ShowBlock.{IsShownError, IsUnread, neighbours, no_neighbours, range_text};
+ghost use Rattle.fixed_show.specs.Forms.{fact, refusal};
+ghost use Rattle.fixed_show.specs.JsonText.{object_text};
+ghost use Rattle.fixed_show.specs.ShowBlock.{AreShowFacts, HasNoBits, IsBetween, IsReadAs, IsShowBlock, IsShowObject};
+ghost use Rattle.fixed_show.specs.ShowBlock.{IsShown, IsShownError, IsUnread, neighbours, no_neighbours, range_text};
+ghost use Rattle.fixed_show.specs.declared.form.Form.TheVariants.{Lines, Members};
 
 use crate::bits::push_values;
 use crate::errors::brief_decimal;
@@ -292,13 +295,43 @@ fn push_shown<const N: usize, L: Ledger>(
     push_range(out, form, shown.overflowed);
 }
 
+/// Appends the facts of a numeral in a format, or why it is refused. Returns that message if it is refused.
+fn push_show_facts<const N: usize, L: Ledger>(
+    out: &mut TextBuffer<N>,
+    form: Form,
+    text: &[u8],
+    radix: Radix,
+    format: Format,
+    policy: Policy,
+    mode: ReadMode,
+    steps: &mut Steps<L>,
+) -> Option<&'static str>
+    requires room { length out.old + 3301 ≤ N }
+    ensures facts { Appends (AreShowFacts form mode radix text.now format policy (is_some result)) 3301 out.old
+        out.new }
+    ensures refused { IfSome result (λ m. out.new ≡ out.old ++ refusal form m.now) }
+    ensures cost { steps.new ≤ steps.old + 26 * length text.now + 3307 }
+{
+    match read_shown(text, radix, format, policy, mode, steps) {
+        Ok(shown) => {
+            push_shown(out, form, &shown, text, radix, format, steps);
+            None
+        }
+        Err(error) => {
+            let message = error.message();
+            push_refusal(out, form, message);
+            Some(message)
+        }
+    }
+}
+
 /// Appends the block of a numeral in a format: the shortest text of the bits that it is read as, the bits in decimal
 /// and in hexadecimal, their exact value, the exact error (that value less the numeral's), the error in ulps, the two
 /// values of the format that enclose the numeral, and whether the read number was in range. An error is written if the
 /// numeral, in decimal and without an exponent, has at most 100 digits before the point and 1,100 after it; otherwise
 /// the line says that the numeral is too long. An error with more than 60 digits after the point is given as the least
-/// power of ten that it is below. A refused numeral gets only one line, `error: ` and why. Returns true if it is
-/// refused. There must be room for `MAX_BLOCK` bytes. It takes at most 26 steps for each byte, and 3,307, not counting
+/// power of ten that it is below. A refused numeral gets only one line, `error: ` and why, and that message is
+/// returned. There must be room for `MAX_BLOCK` bytes. It takes at most 26 steps for each byte, and 3,307, not counting
 /// the arithmetic of the errors: at most some 5,000 passes over a number of 144 limbs.
 pub fn show_block<const N: usize, L: Ledger>(
     text: &[u8],
@@ -308,25 +341,17 @@ pub fn show_block<const N: usize, L: Ledger>(
     mode: ReadMode,
     out: &mut TextBuffer<N>,
     steps: &mut Steps<L>,
-) -> bool
+) -> Option<&'static str>
     requires room { length out.old + MAX_BLOCK ≤ N }
-    ensures block { Appends (IsShowBlock mode radix text.now format policy result) MAX_BLOCK out.old out.new }
+    ensures block { Appends (IsShowBlock mode radix text.now format policy (is_some result)) MAX_BLOCK out.old out.new }
+    ensures refused { IfSome result (λ m. out.new ≡ out.old ++ refusal Lines m.now) }
     ensures cost { steps.new ≤ steps.old + 26 * length text.now + 3307 }
 {
-    match read_shown(text, radix, format, policy, mode, steps) {
-        Ok(shown) => {
-            push_shown(out, Form::Lines, &shown, text, radix, format, steps);
-            false
-        }
-        Err(error) => {
-            push_refusal(out, Form::Lines, error.message());
-            true
-        }
-    }
+    push_show_facts(out, Form::Lines, text, radix, format, policy, mode, steps)
 }
 
 /// Appends the same as a JSON object of at most `MAX_OBJECT` bytes, with each written error in full. Its first member,
-/// `given`, has the first 768 bytes of the numeral. `refused` says why a numeral is refused.
+/// `given`, has the first 768 bytes of the numeral. `refused` is the returned message.
 pub fn show_object<const N: usize, L: Ledger>(
     text: &[u8],
     radix: Radix,
@@ -335,22 +360,15 @@ pub fn show_object<const N: usize, L: Ledger>(
     mode: ReadMode,
     out: &mut TextBuffer<N>,
     steps: &mut Steps<L>,
-) -> bool
+) -> Option<&'static str>
     requires room { length out.old + MAX_OBJECT ≤ N }
-    ensures object { Appends (IsShowObject mode radix text.now format policy result) MAX_OBJECT out.old out.new }
+    ensures object { Appends (IsShowObject mode radix text.now format policy (is_some result)) MAX_OBJECT out.old
+        out.new }
+    ensures refused { IfSome result (λ m. out.new ≡ out.old ++ object_text text.now (refusal Members m.now)) }
     ensures cost { steps.new ≤ steps.old + 26 * length text.now + 3307 }
 {
     push_given(out, text);
-    let is_refused = match read_shown(text, radix, format, policy, mode, steps) {
-        Ok(shown) => {
-            push_shown(out, Form::Members, &shown, text, radix, format, steps);
-            false
-        }
-        Err(error) => {
-            push_refusal(out, Form::Members, error.message());
-            true
-        }
-    };
+    let refused = push_show_facts(out, Form::Members, text, radix, format, policy, mode, steps);
     out.push(b'}');
-    is_refused
+    refused
 }

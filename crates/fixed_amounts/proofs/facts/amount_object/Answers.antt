@@ -1,4 +1,5 @@
 use Rattle.std.proofs.Common.{◌≡◌, ◌++◌, List, ℕ, refl}
+use Rattle.fixed_show.proofs.Public.{object_refused}
 use Rattle.fixed_show.specs.JsonText.{object_text}
 use Rattle.fixed_amounts.proofs.FactLemmas.{object_pushed, object_short, text_short}
 use Rattle.fixed_amounts.proofs.facts.amount_object.Goals as goal
@@ -6,12 +7,15 @@ use Rattle.fixed_amounts.proofs.facts.amount_object.Goals as goal
 pub returns-clause-object : goal.returns-clause-object
 returns-clause-object g c =
     let old : List ℕ = c.args.out.now in
-    let facts = c.push_facts-is_refused.ensures.facts in
+    let facts = c.push_facts-refused.ensures.facts in
     let text : List ℕ = object_text c.args.word.now facts.text in
-    let appended : c.push.new.self ≡ old ++ text = object_pushed old c.push_given.new.out c.push_facts-is_refused.new.out c.push.new.self c.args.word.now facts.text c.push_given.ensures.appended facts.appended c.push.ensures in
+    let appended : c.push.new.self ≡ old ++ text = object_pushed old c.push_given.new.out c.push_facts-refused.new.out c.push.new.self c.args.word.now facts.text c.push_given.ensures.appended facts.appended c.push.ensures in
     record {
       text = text;
       is_text = record { members = facts.text; are_facts = facts.is_text; object_is = refl };
       appended = appended;
-      short = text_short old c.push.new.self text 8000 appended (object_short old c.push_given.new.out c.push_facts-is_refused.new.out c.push.new.self facts.text c.push_given.ensures.short facts.appended facts.short c.push.ensures);
+      short = text_short old c.push.new.self text 8000 appended (object_short old c.push_given.new.out c.push_facts-refused.new.out c.push.new.self facts.text c.push_given.ensures.short facts.appended facts.short c.push.ensures);
     }
+
+pub returns-clause-refused : goal.returns-clause-refused
+returns-clause-refused g c = object_refused _ _ _ _ _ _ c.push_given.ensures.appended c.push_facts-refused.ensures.refused c.push.ensures
