@@ -1,5 +1,5 @@
 -- The first line of some bytes.
-use Rattle.std.proofs.Common.{◌≡◌, ◌==◌, ◌<◌, ◌≤◌, ◌+◌, ℕ, zero, suc, List, [], ◌∷◌, Bool, length, refl, ap, sym, subst, ◌∙◌, arith, take, drop, max, true, false, true≢false, slice_index, if◌then◌else◌}
+use Rattle.std.proofs.Common.{◌≡◌, ◌==◌, ◌<◌, ℕ, zero, suc, List, [], ◌∷◌, Bool, length, refl, ap, sym, subst, arith, take, drop, max, true, false, true≢false, slice_index, if◌then◌else◌}
 use Rattle.memchr.specs.Find.{NoneBefore, Nowhere, Passes, is_byte}
 use Rattle.command_line.specs.Said.{IsWidth, Shows, first_line, pushed, shown}
 

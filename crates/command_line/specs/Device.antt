@@ -1,7 +1,7 @@
 -- The bytes left to a reader that skips a byte order mark, and those that an output contains.
 use Rattle.std.specs.Prelude.{◌==◌, ◌&&◌, ℕ, Bool, List, [], ◌∷◌, None, Option, Some, drop, false, option_map, true}
 use Rattle.std.specs.Io.KnownBytes.{prepend_known}
-use Rattle.csv.specs.Reading.{strip_bom}
+pub use Rattle.csv.specs.Reading.{strip_bom}
 use Rattle.command_line.specs.declared.device.Limited.{Limited}
 use Rattle.command_line.specs.declared.device.Output.{Output}
 use Rattle.command_line.specs.declared.device.Output.TheVariants.{File, Nowhere, Standard}

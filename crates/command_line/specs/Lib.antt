@@ -2,3 +2,4 @@
 pub mod Device
 pub mod Words
 pub mod Said
+pub mod JsonLine

@@ -32,6 +32,13 @@ keyword_at given place = if nat_lt place given.open then word_at given place els
 abbrev pub found_at : ArgMatches → List ℕ → List (List ℕ)
 found_at matches name = unwrap_or (option_map raw_values (matched_of (found_of matches) name)) []
 
+-- all values of the option of this name, in order, if it is given
+abbrev pub values_if : Given → List ℕ → Option (List (List ℕ))
+values_if given name = option_map raw_values (matched_of (found_of given.matches.now) name)
+
+abbrev pub values_of : Given → List ℕ → List (List ℕ)
+values_of given name = unwrap_or (values_if given name) []
+
 -- the operands found under some names, one after another
 abbrev pub found_words : ArgMatches → List Operand → List (List ℕ)
 found_words matches places = flat_map (λ place. found_at matches place.name.now) places

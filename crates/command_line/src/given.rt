@@ -1,7 +1,8 @@
 //! The arguments of a command, and why they may be refused.
 
 ghost use Rattle.std.specs.Prelude.{◌≡◌, ◌++◌, IfErr, IfOk, None, OnOk, Some, drop, map, option_map, string_bytes};
-ghost use Rattle.command_line.specs.Words.{IsGiven, found_at, has_flag, keyword_at, value_of, word_at};
+ghost use Rattle.command_line.specs.Words.{IsGiven, found_at, has_flag, keyword_at, value_of, values_if};
+ghost use Rattle.command_line.specs.Words.{word_at};
 
 use crate::page::{Operand, Row};
 use clap::ArgMatches;
@@ -69,6 +70,13 @@ impl<'w, 'a> Given<'w, 'a> {
         ensures { option_map (λ s. s.now) result ≡ value_of self.now row.now.name.now }
     {
         self.matches.get_str(row.name)
+    }
+
+    /// Returns all values of an option that may be given several times, in order, if it is given.
+    pub fn values(&self, row: &Row) -> Option<&[&'a str]>
+        ensures { option_map (λ words. map (λ s. s.now) words.now) result ≡ values_if self.now row.now.name.now }
+    {
+        self.matches.get_strs(row.name)
     }
 
     /// Whether an option without a value is given.
@@ -256,7 +264,7 @@ fn filled(alloc: Global, row: &Row, word: &str) -> Result<(String, bool), AllocE
     let mut text = String::from_str(alloc, "--")?;
     text.push_str(row.name)?;
     text.push('=')?;
-    let is_value = row.choices.iter().any(|choice| *choice == word);
+    let is_value = !row.wants_equals() && row.choices.iter().any(|choice| *choice == word);
     if is_value {
         text.push_str(word)?;
     } else if let [first, ..] = row.choices {

@@ -7,6 +7,7 @@
 
 pub mod device;
 pub mod given;
+pub mod json_line;
 pub mod page;
 pub mod report;
 pub mod run;

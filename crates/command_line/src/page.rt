@@ -10,7 +10,9 @@ pub struct Row {
     pub name: &'static str,
     /// Its letter, after `-`, if any.
     pub letter: Option<char>,
-    /// The name of its value in help: empty if it takes none, and in brackets if the value may be left out.
+    /// The name of its value in help: empty if it takes none, in brackets if the value may be left out, with `=` in
+    /// them if it is given only after this sign, and with three points after it if the option may be given several
+    /// times.
     pub value: &'static str,
     /// The values that it takes, if these are a few; the first is the default if the value may be left out.
     pub choices: &'static [&'static str],
@@ -22,6 +24,16 @@ impl Row {
     /// Whether the option takes a value that may be left out.
     pub fn may_lack_value(&self) -> bool {
         self.value.starts_with('[')
+    }
+
+    /// Whether the value is given only after `=`, so that the next argument is never taken for it.
+    pub fn wants_equals(&self) -> bool {
+        self.value.starts_with("[=")
+    }
+
+    /// Whether the option may be given several times.
+    pub fn may_repeat(&self) -> bool {
+        self.value.ends_with("...")
     }
 }
 
@@ -101,16 +113,26 @@ fn optional<'a>(alloc: Global, row: &Row) -> Arg<'a> {
     if row.value.is_empty() {
         known.action(ArgAction::SetTrue)
     } else if row.may_lack_value() {
-        chosen(valued(known, bare_value(row.value)), row.choices).num_args(0..2)
+        let known = chosen(valued(known, bare_value(row.value)), row.choices);
+        known.num_args(0..2).require_equals(row.wants_equals())
+    } else if row.may_repeat() {
+        repeated(valued(known, bare_value(row.value)))
     } else {
         chosen(valued(known, row.value), row.choices)
     }
 }
 
-/// Returns the name of a value without the brackets around it.
+/// Lets an argument be given several times.
+fn repeated(argument: Arg<'_>) -> Arg<'_> {
+    argument.action(ArgAction::Append)
+}
+
+/// Returns the name of a value without the brackets around it or the points after it.
 fn bare_value(value: &'static str) -> &'static str {
-    let open = value.strip_prefix('[').unwrap_or(value);
-    open.strip_suffix(']').unwrap_or(open)
+    let one = value.strip_suffix("...").unwrap_or(value);
+    let open = one.strip_prefix('[').unwrap_or(one);
+    let name = open.strip_prefix('=').unwrap_or(open);
+    name.strip_suffix(']').unwrap_or(name)
 }
 
 /// Makes the operand at a position; the last one takes all remaining arguments.

@@ -39,7 +39,7 @@ pub fn hex_digit(number: u8) -> u8
 }
 
 /// Returns the length of the UTF-8 character that `bytes` begins with, or 0 if it does not begin with one.
-fn character_width(bytes: &[u8]) -> usize
+pub(crate) fn character_width(bytes: &[u8]) -> usize
     ensures { IsWidth bytes.now result }
 {
     let width = match bytes {

@@ -97,6 +97,13 @@ impl<W: Write> StdSink<W> {
     {
         self.lines
     }
+
+    /// Returns the writer.
+    pub fn into_writer(self) -> W
+        ensures { result ≡ self.writer }
+    {
+        self.writer
+    }
 }
 
 impl<W: Write> Sink for StdSink<W> {

@@ -22,7 +22,7 @@ use Rattle.fixed_report.specs.Laws.{AreSame, GreatestHasBits, ReportIsTheOne}
 use Rattle.fixed_report.specs.Report.{AreIn, HasReport, IsIn, IsLostBy, Kept, longest_kept}
 use Rattle.fixed_report.specs.declared.report.Lost.{Lost}
 use Rattle.fixed_report.specs.declared.report.Lost.TheVariants.{NoMemory, TooLong}
-use Rattle.fixed_report.specs.Text.{IsGreatestText, greatest_text}
+use Rattle.fixed_report.specs.Text.{greatest_text}
 use Rattle.fixed_show.specs.ShowBlock.{HasNoBits, IsReadAs}
 use Rattle.fixed_show.specs.ShownErrors.{AreShownErrors}
 
@@ -183,16 +183,11 @@ pub kept_short : (old new numeral : List ℕ) (most : ℕ) → length old ≤ mo
 kept_short old new numeral most a b (inl e) = subst (λ l. length l ≤ most) (sym e) a
 kept_short old new numeral most a b (inr e) = subst (λ l. length l ≤ most) (sym e) b
 
-pub text_some : (inside k : Kept) (numeral name out : List ℕ) (place : ℕ) (error ulps : List ℕ) → inside ≡ k → numeral ≡ inside.greatest.numeral.items → place ≡ inside.greatest.place
-    → AreShownErrors inside.mode inside.radix numeral inside.format Checked error ulps → out ≡ greatest_text name place error ulps → IsGreatestText k.mode k.radix k.format name k.greatest.place k.greatest.numeral.items out
-text_some inside k numeral name out place error ulps same is at shown said =
-    let here : IsGreatestText inside.mode inside.radix inside.format name inside.greatest.place inside.greatest.numeral.items out = record {
-      error = error;
-      ulps = ulps;
-      shown = subst (λ t. AreShownErrors inside.mode inside.radix t inside.format Checked error ulps) is shown;
-      text_is = said ∙ ap (λ p. greatest_text name p error ulps) at;
-    } in
-    subst (λ (x : Kept). IsGreatestText x.mode x.radix x.format name x.greatest.place x.greatest.numeral.items out) same here
+pub greatest_some : (inside k : Kept) (numeral : List ℕ) (error ulps : List ℕ) → inside ≡ k → numeral ≡ inside.greatest.numeral.items
+    → AreShownErrors inside.mode inside.radix numeral inside.format Checked error ulps → AreShownErrors k.mode k.radix k.greatest.numeral.items k.format Checked error ulps
+greatest_some inside k numeral error ulps same is shown =
+    let here : AreShownErrors inside.mode inside.radix inside.greatest.numeral.items inside.format Checked error ulps = subst (λ t. AreShownErrors inside.mode inside.radix t inside.format Checked error ulps) is shown in
+    subst (λ (x : Kept). AreShownErrors x.mode x.radix x.greatest.numeral.items x.format Checked error ulps) same here
 
 pub text_none : (inside k : Kept) (numeral : List ℕ) → inside ≡ k → numeral ≡ inside.greatest.numeral.items → HasNoBits inside.mode inside.radix numeral inside.format Checked
     → IsSome k.lost ⊎ ((k.greatest.is_some ≡ false) ⊎ HasNoBits k.mode k.radix k.greatest.numeral.items k.format Checked)

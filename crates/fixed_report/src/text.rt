@@ -4,6 +4,7 @@ ghost use Rattle.std.specs.Prelude.{◌≡◌, ◌⊎◌, ◌≤◌, [], IfNone,
 ghost use Rattle.fixed_bits.specs.declared.format.Policy.TheVariants.{Checked};
 ghost use Rattle.fixed_report.specs.Text.{IsGreatestText, greatest_text};
 ghost use Rattle.fixed_show.specs.ShowBlock.{HasNoBits};
+ghost use Rattle.fixed_show.specs.ShownErrors.{AreShownErrors};
 
 use crate::report::ErrorReport;
 use fixed_bits::Policy;
@@ -34,18 +35,14 @@ fn push_greatest(out: &mut TextBuffer<MAX_GREATEST>, name: &[u8], place: u64, sa
 }
 
 impl ErrorReport {
-    /// Returns the place of the numeral with the greatest error, after a name for places of at most 8 bytes, its error,
-    /// and the same in ulps, as `show` writes them. `None`: no numeral was in range, or it was lost.
-    pub fn text<L: Ledger>(
-        &self,
-        name: &[u8],
-        steps: &mut Steps<L>,
-    ) -> Option<TextBuffer<MAX_GREATEST>>
-        requires name { length name.now ≤ 8 }
-        ensures kept { IfSome result (λ text. self.now.greatest.is_some ≡ true) }
-        ensures known { IfSome result (λ text. self.now.lost ≡ None) }
-        ensures text { IfSome result (λ text. IsGreatestText self.now.mode self.now.radix self.now.format name.now
-            self.now.greatest.place self.now.greatest.numeral.items text) }
+    /// Returns the place of the numeral with the greatest error, its error, and the same in ulps, as `show` writes
+    /// them. `None`: no numeral was in range, or it was lost.
+    pub fn greatest<L: Ledger>(&self, steps: &mut Steps<L>) -> Option<(u64, ErrorTexts)>
+        ensures kept { IfSome result (λ found. self.now.greatest.is_some ≡ true) }
+        ensures known { IfSome result (λ found. self.now.lost ≡ None) }
+        ensures place { IfSome result (λ found. found.0 ≡ self.now.greatest.place) }
+        ensures texts { IfSome result (λ found. AreShownErrors self.now.mode self.now.radix
+            self.now.greatest.numeral.items self.now.format Checked found.1.error found.1.ulps) }
         ensures none { IfNone result (IsSome self.now.lost ⊎ ((self.now.greatest.is_some ≡ false)
             ⊎ HasNoBits self.now.mode self.now.radix self.now.greatest.numeral.items self.now.format Checked)) }
     {
@@ -64,9 +61,30 @@ impl ErrorReport {
             self.mode,
             steps,
         ) {
-            Some(said) => {
+            Some(said) => Some((self.greatest.place(), said)),
+            None => None,
+        }
+    }
+
+    /// Returns the place of the numeral with the greatest error, after a name for places of at most 8 bytes, its error,
+    /// and the same in ulps, as `show` writes them. `None`: no numeral was in range, or it was lost.
+    pub fn text<L: Ledger>(
+        &self,
+        name: &[u8],
+        steps: &mut Steps<L>,
+    ) -> Option<TextBuffer<MAX_GREATEST>>
+        requires name { length name.now ≤ 8 }
+        ensures kept { IfSome result (λ text. self.now.greatest.is_some ≡ true) }
+        ensures known { IfSome result (λ text. self.now.lost ≡ None) }
+        ensures text { IfSome result (λ text. IsGreatestText self.now.mode self.now.radix self.now.format name.now
+            self.now.greatest.place self.now.greatest.numeral.items text) }
+        ensures none { IfNone result (IsSome self.now.lost ⊎ ((self.now.greatest.is_some ≡ false)
+            ⊎ HasNoBits self.now.mode self.now.radix self.now.greatest.numeral.items self.now.format Checked)) }
+    {
+        match self.greatest(steps) {
+            Some((place, said)) => {
                 let mut text: TextBuffer<MAX_GREATEST> = TextBuffer::new();
-                push_greatest(&mut text, name, self.greatest.place(), &said);
+                push_greatest(&mut text, name, place, &said);
                 Some(text)
             }
             None => None,

@@ -1,4 +1,4 @@
-use Rattle.std.proofs.Common.{◌-◌, ◌+◌, ◌<◌, ◌≡◌, ℕ, List, arith, drop, length, max, subst}
+use Rattle.std.proofs.Common.{◌-◌, ◌+◌, ◌<◌, ℕ, List, arith, drop, length, max, subst}
 use Rattle.command_line.specs.Said.{Shows}
 use Rattle.command_line.proofs.ReportLemmas.{shows_end, shows_more, shows_none}
 use Rattle.command_line.proofs.report.Report.name.Goals as goal
