@@ -5,10 +5,10 @@ mod AskingLemmas
 mod BlockLemmas
 mod ColonLemmas
 mod ErrorLineLemmas
-mod ExactLemmas
 mod ExplainFieldLemmas
 mod ExplainLawLemmas
 mod FieldLemmas
+mod LineBlockLemmas
 mod OutcomeLemmas
 mod OutcomeNumbers
 mod OverflowLemmas

@@ -1,8 +1,10 @@
 -- Words that are passed over one after another, because they are not refused.
-use Rattle.std.proofs.Common.{◌≡◌, ℕ, ◌+◌, ◌==◌, Bool, map, List, [], ◌∷◌, ◌++◌, true, length, arith, refl, sym, ap, ◌∙◌, subst, append_assoc, append-nil, length-append}
+use Rattle.std.proofs.Common.{◌≡◌, ℕ, ◌+◌, ◌==◌, map, List, [], ◌∷◌, ◌++◌, true, length, arith, refl, sym, ap, ◌∙◌, subst, append_assoc, append-nil, length-append}
 use Rattle.std.specs.Prelude.{All}
 use Rattle.std.proofs.lemmas.Bool.{eqb-true}
 use Rattle.std.proofs.lemmas.List.Elements.{All-append, All-cons, All-nil}
+use Rattle.fixed_show.specs.Forms.{refusal}
+use Rattle.fixed_show.specs.declared.form.Form.TheVariants.{Lines}
 use Rattle.fixed_command.specs.Blocks.{IsBlock}
 use Rattle.fixed_command.specs.Refused.{IsClean, IsFirstRefused}
 use Rattle.fixed_command.specs.declared.blocks.Question.{Question}
@@ -28,8 +30,8 @@ one_passed q words rest word place so_far clean = record {
 pub all_passed : (q : Question) (words : List (List ℕ)) (place : ℕ) → HasPassed q words [] place → All (IsClean q) words
 all_passed q words place so_far = subst (All (IsClean q)) (sym (so_far.cut ∙ append-nil so_far.some)) so_far.clean
 
-pub stopped : (q : Question) (words rest : List (List ℕ)) (word block : List ℕ) (place : ℕ) → HasPassed q words (word ∷ rest) place → IsBlock q word (record { text = block; fault = true }) → IsFirstRefused q words place block
-stopped q words rest word block place so_far refused = record {
+pub stopped : (q : Question) (words rest : List (List ℕ)) (word cause : List ℕ) (place : ℕ) → HasPassed q words (word ∷ rest) place → IsBlock q word (record { text = refusal Lines cause; fault = true }) → IsFirstRefused q words place cause
+stopped q words rest word cause place so_far refused = record {
   some = so_far.some;
   word = word;
   more = rest;
@@ -38,10 +40,6 @@ stopped q words rest word block place so_far refused = record {
   clean = so_far.clean;
   refused = refused;
 }
-
--- ---- the result of a call that answers one word
-pub as_block : (q : Question) (word text out : List ℕ) (result fault : Bool) → IsBlock q word (record { text = text; fault = result }) → out ≡ text → result ≡ fault → IsBlock q word (record { text = out; fault = fault })
-as_block q word text out result fault is same flag = subst (λ t. IsBlock q word (record { text = t; fault = fault })) (sym same) (subst (λ b. IsBlock q word (record { text = text; fault = b })) flag is)
 
 pub none_left : {X : Type 0} (f : X → List ℕ) (xs : List X) → true ≡ (length xs == 0) → map f xs ≡ []
 none_left f [] none = refl

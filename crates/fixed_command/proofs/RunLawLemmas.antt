@@ -10,6 +10,7 @@ use Rattle.line_engine.specs.declared.status.Status.{Status}
 use Rattle.line_engine.specs.declared.status.Status.TheVariants.{Done, Faults, Usage, ReadFault, WriteFault, NoMemory, TooLong}
 use Rattle.line_engine.proofs.Public.{not_failed, output_one, whole_output_one}
 use Rattle.fixed_amounts.proofs.Public.{amount_block_one, facts_apart}
+use Rattle.fixed_fields.proofs.Public.{fields_answer_one}
 use Rattle.fixed_show.proofs.Public.{part_fault_one, part_has_no_fault, show_facts_apart, show_refusal_one, word_fault_one, word_has_no_fault}
 use Rattle.fixed_show.specs.BitsBlock.{fault_message}
 use Rattle.fixed_show.specs.Forms.{refusal}
@@ -20,7 +21,8 @@ use Rattle.fixed_command.specs.Blocks.{IsAnswered, IsBlock, IsDecimalAnswer, IsF
 use Rattle.fixed_command.specs.Refused.{IsClean}
 use Rattle.fixed_command.specs.RunLaws.{BlocksEndIsTheOne, FirstRefusedIsTheOne, LineRunIsTheOne, WholeRunIsTheOne}
 use Rattle.fixed_command.specs.declared.blocks.Question.{Question}
-use Rattle.fixed_command.specs.declared.blocks.Question.TheVariants.{Amount, Bits, Format, Part, Show}
+use Rattle.fixed_command.specs.declared.blocks.Question.TheVariants.{Amount, Bits, Fields, Format, Part, Show}
+use Rattle.fixed_command.proofs.LineBlockLemmas.{message_one}
 
 abbrev refused : List ℕ → AnswerText
 refused text = record { text = text; fault = true }
@@ -40,6 +42,7 @@ refusal_one (Bits r f) word a b x y =
     x.facts_are ∙ ap (λ w. refusal Lines (fault_message w)) (word_fault_one r f word x.fault y.fault x.is_fault y.is_fault) ∙ sym y.facts_are
 refusal_one (Part r part f) word a b x y =
     x.facts_are ∙ ap (λ w. refusal Lines (part_message w)) (part_fault_one r part f word x.fault y.fault x.is_fault y.is_fault) ∙ sym y.facts_are
+refusal_one (Fields question) word a b x y = (fields_answer_one Lines question word true true a b x y).1
 refusal_one (Amount question) word a b x y = (amount_block_one question word true true a b x y).1
 refusal_one Format word a b (inl x) y = absurd (false≢true (sym x.clean))
 refusal_one Format word a b (inr x) (inl y) = absurd (false≢true (sym y.clean))
@@ -59,6 +62,7 @@ not_both : (q : Question) (word a b : List ℕ) → IsBlock q word (refused a) �
 not_both (Show r f p m) word a b x y = show_facts_apart Lines m r word f p a b x y
 not_both (Bits r f) word a b x y = word_has_no_fault r f word x.fault y.bits x.is_fault y.is_word
 not_both (Part r part f) word a b x y = part_has_no_fault r part f word x.fault y.bits x.is_fault y.is_part
+not_both (Fields question) word a b x y = false≢true (sym (fields_answer_one Lines question word true false a b x y).0)
 not_both (Amount question) word a b x y = facts_apart Lines question word a b x y
 not_both Format word a b x y = no_name Lines word a b x y
 
@@ -66,6 +70,7 @@ not_both_objects : (q : Question) (word a b : List ℕ) → IsObject q word (ref
 not_both_objects (Show r f p m) word a b x y = show_facts_apart Members m r word f p x.members y.members x.are_facts y.are_facts
 not_both_objects (Bits r f) word a b x y = word_has_no_fault r f word x.are_facts.fault y.are_facts.bits x.are_facts.is_fault y.are_facts.is_word
 not_both_objects (Part r part f) word a b x y = part_has_no_fault r part f word x.are_facts.fault y.are_facts.bits x.are_facts.is_fault y.are_facts.is_part
+not_both_objects (Fields question) word a b x y = false≢true (sym (fields_answer_one Members question word true false a b x y).0)
 not_both_objects (Amount question) word a b x y = facts_apart Members question word x.members y.members x.are_facts y.are_facts
 not_both_objects Format word a b x y = no_name Members word a b x y
 
@@ -90,8 +95,8 @@ first_one q (z ∷ xs) (u ∷ ys) w v more others a b e c d x y =
 
 pub first_refused_one : FirstRefusedIsTheOne
 first_refused_one q words i j a b x y =
-    let one = first_one q x.some y.some x.word y.word x.more y.more a b (sym x.cut ∙ y.cut) x.clean y.clean x.refused y.refused in
-    (sym x.counted ∙ one.0 ∙ y.counted, one.1)
+    let one = first_one q x.some y.some x.word y.word x.more y.more (refusal Lines a) (refusal Lines b) (sym x.cut ∙ y.cut) x.clean y.clean x.refused y.refused in
+    (sym x.counted ∙ one.0 ∙ y.counted, message_one a b one.1)
 
 -- ---- runs over words
 not_both_answers : (form : Form) (q : Question) (word a b : List ℕ) → IsAnswered form q word (refused a) → IsAnswered form q word (clean b) → ⊥

@@ -1,6 +1,5 @@
 -- What the values of options name.
-use Rattle.std.specs.Prelude.{◌≡◌, ℕ, ◌+◌, ◌-◌, pos, List, ◌∷◌, ◌++◌, codes}
-use Rattle.std.specs.Fmt.{signed_decimal}
+use Rattle.std.specs.Prelude.{◌≡◌, ℕ, List, codes}
 use Rattle.std.specs.declared.option.Option.{Option}
 use Rattle.std.specs.declared.option.Option.TheVariants.{None, Some}
 use Rattle.fixed_command.specs.declared.print.Print.{Print}
@@ -32,7 +31,3 @@ spelling_text Word = codes "bits"
 abbrev pub IsNamed : (A : Type 0) → (A → List ℕ) → A → Option (List ℕ) → A → Type 0
 IsNamed A text plain None a = a ≡ plain
 IsNamed A text plain (Some word) a = word ≡ text a
-
--- the word for the field of `width` bits from bit `low` on: its highest bit, a colon, and its lowest
-abbrev pub field_text : ℕ → ℕ → List ℕ
-field_text width low = signed_decimal (pos (low + width - 1)) ++ (58 ∷ signed_decimal (pos low))

@@ -5,6 +5,7 @@ use Rattle.std.specs.Io.KnownBytes.{Appends}
 use Rattle.fixed_amounts.specs.Facts.{IsAmountBlock, IsAmountObject, format_facts}
 use Rattle.fixed_amounts.specs.Names.{IsDecimalName}
 use Rattle.fixed_bits.specs.Formats.{FormatParts}
+use Rattle.fixed_fields.specs.Answer.{IsFieldsAnswer}
 use Rattle.fixed_names.specs.Names.{IsName}
 use Rattle.fixed_show.specs.BitsBlock.{IsBitsBlock, IsBitsObject}
 use Rattle.fixed_show.specs.FormatBlock.{IsFormatBlock, IsFormatObject}
@@ -21,7 +22,7 @@ use Rattle.line_engine.specs.declared.status.Status.{Status}
 use Rattle.line_engine.specs.declared.status.Status.TheVariants.{Done, Faults, Usage, ReadFault, WriteFault, NoMemory}
 use Rattle.line_engine.specs.declared.status.Status.TheVariants.{TooLong}
 use Rattle.fixed_command.specs.declared.blocks.Question.{Question}
-use Rattle.fixed_command.specs.declared.blocks.Question.TheVariants.{Amount, Bits, Format, Part, Show}
+use Rattle.fixed_command.specs.declared.blocks.Question.TheVariants.{Amount, Bits, Fields, Format, Part, Show}
 
 -- the text gives the facts about the format that a word names
 abbrev pub IsFormatText : Form → List ℕ → FormatParts → List ℕ → Type 0
@@ -74,15 +75,17 @@ abbrev pub IsBlock : Question → List ℕ → AnswerText → Type 0
 IsBlock (Show radix format policy mode) word block = IsShowBlock mode radix word format policy block.fault block.text
 IsBlock (Bits radix format) word block = IsBitsBlock radix format word block.fault block.text
 IsBlock (Part radix part format) word block = IsPartBlock radix part format word block.fault block.text
+IsBlock (Fields question) word block = IsFieldsAnswer Lines question word block.fault block.text
 IsBlock (Amount question) word block = IsAmountBlock question word block.fault block.text
 IsBlock Format word block = IsFormatAnswer Lines word block
 
--- the JSON object that answers a question about a word
+-- the JSON object that answers a question about a word, or an object for each field
 abbrev pub IsObject : Question → List ℕ → AnswerText → Type 0
 IsObject (Show radix format policy mode) word object = IsShowObject mode radix word format policy object.fault
     object.text
 IsObject (Bits radix format) word object = IsBitsObject radix format word object.fault object.text
 IsObject (Part radix part format) word object = IsPartObject radix part format word object.fault object.text
+IsObject (Fields question) word object = IsFieldsAnswer Members question word object.fault object.text
 IsObject (Amount question) word object = IsAmountObject question word object.fault object.text
 IsObject Format word object = IsFormatAnswer Members word object
 
@@ -95,6 +98,11 @@ pub record IsHeaded (q : Question) (word : List ℕ) (block : AnswerText) : Type
   pub body : List ℕ
   pub is_body : IsBlock q word (record { text = body; fault = block.fault })
   pub text_is : block.text ≡ head_line word ++ body
+
+-- the answer that refuses a word with a message
+abbrev pub refused_answer : Form → List ℕ → List ℕ → List ℕ
+refused_answer Lines word message = head_line word ++ refused_text Lines word message
+refused_answer Members word message = refused_text Members word message
 
 -- the answer in a form
 abbrev pub IsAnswered : Form → Question → List ℕ → AnswerText → Type 0

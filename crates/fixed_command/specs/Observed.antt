@@ -1,5 +1,5 @@
 -- What observers record of the lines of a task.
-use Rattle.std.specs.Prelude.{◌≡◌, ◌+◌, ◌++◌, ◌∷◌, ℕ, List, [], Bool, true, false, Option, None, Some, MatchOption}
+use Rattle.std.specs.Prelude.{◌≡◌, ◌++◌, ◌∷◌, ℕ, List, [], Bool, true, false, Option, None, Some, MatchOption}
 use Rattle.std.specs.Prelude.{Result, Ok, Err, take}
 use Rattle.fixed_report.specs.Report.{HasReport, IsLostBy, Kept}
 use Rattle.run_engine.specs.Refused.{SawRefused}
@@ -30,9 +30,10 @@ reported_of message (Some line) = Some (record {
 abbrev pub SawReturned : {N : Type 0} → Refusals Message → ℕ → List ℕ → Result N Message → Refusals Message → Type 0
 SawReturned watch number line result then = SawRefused watch number (without_return line) result then
 
--- the record of refused lines after one more line, as it was answered
-abbrev pub SawLaid : {N C : Type 0} → LineLayout → Refusals C → ℕ → List ℕ → Result N C → Refusals C → Type 0
-SawLaid l watch number line result then = SawRefused watch number (answered_line l line) result then
+-- the record of refused lines after one more line, by its recorded part as it was answered
+abbrev pub SawLaid : {N C : Type 0} → (List ℕ → List ℕ) → LineLayout → Refusals C → ℕ → List ℕ → Result N C
+    → Refusals C → Type 0
+SawLaid recorded l watch number line result then = SawRefused watch number (recorded (answered_line l line)) result then
 
 -- the outcome of the numeral of a line that is answered; a skipped line has none
 abbrev pub IsLineOutcome : LaidOutRule → List ℕ → Option Outcome → Type 0

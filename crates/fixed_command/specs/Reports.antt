@@ -12,15 +12,19 @@ use Rattle.run_engine.specs.LineRun.{HasLinesRun}
 use Rattle.run_engine.specs.Refused.{SawRefused}
 use Rattle.run_engine.specs.Reply.{Returns}
 use Rattle.run_engine.specs.declared.refusals.Refusals.{Refusals}
-use Rattle.fixed_command.specs.Convert.{IsLineReply, IsReply}
+use Rattle.fixed_show.specs.declared.form.Form.{Form}
+use Rattle.fixed_command.specs.Convert.{IsLineReply, IsReply, without_return}
 use Rattle.fixed_command.specs.Errors.{IsErrorLine}
 use Rattle.fixed_command.specs.Layout.{AnswersLaidOut, IsLaidOut, LineLayout, NotesLaidOut, answered_line}
 use Rattle.fixed_command.specs.Limits.{limit_of}
+use Rattle.fixed_command.specs.LineBlocks.{IsLineBlock, line_refusal}
 use Rattle.fixed_command.specs.Message.{message_text}
 use Rattle.fixed_command.specs.Observed.{IsLineOutcome, SawCounted, SawLaid, SawReturned, reported_of}
 use Rattle.fixed_command.specs.Runs.{reported_extra, reported_per_byte}
+use Rattle.fixed_command.specs.declared.blocks.Question.{Question}
 use Rattle.fixed_command.specs.declared.laid_lines.LaidOutLines as laid
 use Rattle.fixed_command.specs.declared.laid_lines.LaidRefusals.{LaidRefusals}
+use Rattle.fixed_command.specs.declared.line_blocks.BlockRule.{BlockRule}
 use Rattle.fixed_command.specs.declared.message.Message.{Message}
 use Rattle.fixed_command.specs.declared.observed.CountedRule.{CountedRule}
 use Rattle.fixed_command.specs.declared.observed.LineReport.{LineReport}
@@ -60,21 +64,21 @@ pub record ReportsRefused (R : Type 0) {C : Type 0} (A : List ℕ → AnswerText
   pub tells : Tells message last end.refusals
 
 -- how the observer of refused lines as they were answered changes
-abbrev pub SawLaidOf : {N C : Type 0} → LineLayout → LaidRefusals C → ℕ → List ℕ → Result N C → LaidRefusals C
-    → Type 0
-SawLaidOf l watch number line result then = SawLaid l watch.refusals number line result then.refusals
+abbrev pub SawLaidOf : {N C : Type 0} → (List ℕ → List ℕ) → LineLayout → LaidRefusals C → ℕ → List ℕ → Result N C
+    → LaidRefusals C → Type 0
+SawLaidOf recorded l watch number line result then = SawLaid recorded l watch.refusals number line result then.refusals
 
--- the same for lines with a layout: the observer saw each line as it was answered
-pub record ReportsLaid (R : Type 0) {C : Type 0} (layout : LineLayout) (A : List ℕ → AnswerText → Type 0)
-    (refusal : List ℕ → C → List ℕ) (message : C → List ℕ) (per_byte extra limit : ℕ) (before after : Outside)
-    (end : TaskEnd) : Type 0 where
+-- the same for lines with a layout: the observer saw the recorded part of each line as it was answered
+pub record ReportsLaid (R : Type 0) {C : Type 0} (recorded : List ℕ → List ℕ) (layout : LineLayout)
+    (A : List ℕ → AnswerText → Type 0) (refusal : List ℕ → C → List ℕ) (message : C → List ℕ)
+    (per_byte extra limit : ℕ) (before after : Outside) (end : TaskEnd) : Type 0 where
   pub rule : R
   pub first : LaidRefusals C
   pub last : LaidRefusals C
   pub fresh : IsFresh first.refusals
   pub run : HasLinesRun {R = laid.LaidOutLines R} (record { rule = rule; layout = layout }) (AnswersLaidOut layout A)
-      (Returns (NotesLaidOut layout NoNote) (λ line. refusal (answered_line layout line))) (SawLaidOf layout) per_byte
-      extra limit before after end.status first last
+      (Returns (NotesLaidOut layout NoNote) (λ line. refusal (answered_line layout line))) (SawLaidOf recorded layout)
+      per_byte extra limit before after end.status first last
   pub tells : Tells message last.refusals end.refusals
 
 -- how the observer of refused lines without a carriage return changes
@@ -85,13 +89,18 @@ abbrev pub message_of : Message → List ℕ
 message_of message = message.text.now
 
 pub record ReportsReturned {R : Type 0} (rule : R) (A : List ℕ → AnswerText → Type 0)
-    (per_byte extra limit : ℕ) (before after : Outside) (end : TaskEnd) : Type 0 where
+    (refusal : List ℕ → Message → List ℕ) (per_byte extra limit : ℕ) (before after : Outside)
+    (end : TaskEnd) : Type 0 where
   pub first : RefusedLines
   pub last : RefusedLines
   pub fresh : IsFresh first.refusals
-  pub run : HasLinesRun rule A (Returns NoNote message_text) SawReturnedOf per_byte extra limit before after end.status
+  pub run : HasLinesRun rule A (Returns NoNote refusal) SawReturnedOf per_byte extra limit before after end.status
       first last
   pub tells : Tells message_of last.refusals end.refusals
+
+-- the rule of a question about lines
+abbrev pub block_rule : Form → Question → BlockRule
+block_rule form question = record { form = form; question = question }
 
 -- the tally of no numerals
 abbrev pub no_tally : Tally
@@ -119,27 +128,30 @@ pub record ReportsCounted (counted : CountedRule) (limit : ℕ) (before after : 
   pub tally : end.tally ≡ last.tally
   pub errors : end.errors ≡ Some last.errors
 
--- what the end of a task reports; it is not stated for questions and for whole inputs
+-- what the end of a task reports; it is not stated for whole inputs
 abbrev pub TaskReports : Option ℕ → Task → Outside → Outside → TaskEnd → Type 0
 TaskReports limit Lines before after end = ReportsRefused RespellRule respell.IsAnswer
     (refusal_text respell.fault_message) (refusal_message respell.fault_message) 8 624 (limit_of limit) before after end
-TaskReports limit (Convert settings) before after end = ReportsReturned settings (IsLineReply settings) 8 624
-    (limit_of limit) before after end
-TaskReports limit (LaidOut laid) before after end = ReportsReturned laid (IsLaidOut laid.layout (IsReply laid.rule)) 8
+TaskReports limit (Convert settings) before after end = ReportsReturned settings (IsLineReply settings) message_text 8
     624 (limit_of limit) before after end
+TaskReports limit (LaidOut laid) before after end = ReportsReturned laid (IsLaidOut laid.layout (IsReply laid.rule))
+    message_text 8 624 (limit_of limit) before after end
 TaskReports limit (Reported counted) before after end = ReportsCounted counted (limit_of limit) before after end
-TaskReports limit (Errors lines) before after end = ReportsReturned lines (IsErrorLine lines) 11 1565 (limit_of limit)
-    before after end
+TaskReports limit (Errors lines) before after end = ReportsReturned lines (IsErrorLine lines) message_text 11 1565
+    (limit_of limit) before after end
 TaskReports limit Enclose before after end = ReportsRefused EncloseRule enclose.IsAnswer
     (refusal_text enclose.fault_message) (refusal_message enclose.fault_message) 16 1248 (limit_of limit) before after
     end
-TaskReports limit (LaidOutLines layout) before after end = ReportsLaid RespellRule layout respell.IsAnswer
-    (refusal_text respell.fault_message) (refusal_message respell.fault_message) 8 624 (limit_of limit) before after end
-TaskReports limit (LaidOutEnclose layout) before after end = ReportsLaid EncloseRule layout enclose.IsAnswer
-    (refusal_text enclose.fault_message) (refusal_message enclose.fault_message) 16 1248 (limit_of limit) before after
-    end
-TaskReports limit (Ask form question) before after end = Unit {0}
-TaskReports limit (LaidOutAsk form question layout) before after end = Unit {0}
+TaskReports limit (LaidOutLines layout) before after end = ReportsLaid RespellRule (λ line. line) layout
+    respell.IsAnswer (refusal_text respell.fault_message) (refusal_message respell.fault_message) 8 624 (limit_of limit)
+    before after end
+TaskReports limit (LaidOutEnclose layout) before after end = ReportsLaid EncloseRule (λ line. line) layout
+    enclose.IsAnswer (refusal_text enclose.fault_message) (refusal_message enclose.fault_message) 16 1248
+    (limit_of limit) before after end
+TaskReports limit (Ask form question) before after end = ReportsReturned (block_rule form question)
+    (IsLineBlock form question) (line_refusal form) 26 3307 (limit_of limit) before after end
+TaskReports limit (LaidOutAsk form question layout) before after end = ReportsLaid BlockRule without_return layout
+    (IsLineBlock form question) (line_refusal form) message_of 26 3307 (limit_of limit) before after end
 TaskReports limit (Least rule) before after end = Unit {0}
 TaskReports limit (LaidOutLeast rule layout) before after end = Unit {0}
 TaskReports limit (Constants rule) before after end = Unit {0}

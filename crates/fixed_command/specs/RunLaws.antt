@@ -23,7 +23,7 @@ LineReplyIsTheOne = (s : Settings) (line : List ℕ) (a b : AnswerText) → IsLi
     → a ≡ b
 
 -- ---- words
--- a list of words has at most one first refused word, with one block
+-- a list of words has at most one first refused word, with one cause
 abbrev pub FirstRefusedIsTheOne : Type 0
 FirstRefusedIsTheOne = (q : Question) (words : List (List ℕ)) (i j : ℕ) (a b : List ℕ) → IsFirstRefused q words i a
     → IsFirstRefused q words j b → (i ≡ j) × (a ≡ b)

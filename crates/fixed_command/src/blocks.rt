@@ -1,12 +1,13 @@
-//! Questions about words, each answered with a block of lines or a JSON object.
+//! Questions about words, each answered with a block of lines or a JSON object, or an object for each field.
 //!
 //! A block begins with the first 1,024 bytes of its word, even if the word is refused, so that it is found by its word.
 
-ghost use Rattle.std.specs.Prelude.{◌≡◌, ◌≤◌, ◌<◌, ◌+◌, ◌*◌, ◌++◌, ◌||◌, List, ℕ, length, map, take, IfOk, OnErr};
+ghost use Rattle.std.specs.Prelude.{◌≡◌, ◌≤◌, ◌<◌, ◌+◌, ◌*◌, ◌++◌, List, ℕ, is_some, length, map, take};
+ghost use Rattle.std.specs.Prelude.{IfOk, IfSome, OnErr};
 ghost use Rattle.std.specs.Io.KnownBytes.{Appends};
 ghost use Rattle.fixed_command.specs.Blocks.{BlocksRun, IsAnswered, IsBlock, IsDecimalAnswer, IsFormatAnswer, IsHeaded};
 ghost use Rattle.fixed_command.specs.Blocks.{IsObject};
-ghost use Rattle.fixed_command.specs.Blocks.{ending, head_line, lead};
+ghost use Rattle.fixed_command.specs.Blocks.{ending, head_line, lead, refused_answer, refused_text};
 ghost use Rattle.fixed_show.specs.Blocks as show_blocks;
 ghost use Rattle.fixed_show.specs.declared.form.Form.TheVariants.{Lines, Members};
 ghost use Rattle.line_engine.specs.AnswerText.{AnswerText};
@@ -18,11 +19,12 @@ use fixed_amounts::{
     decimal_format_object,
 };
 use fixed_bits::{Policy, ReadMode};
+use fixed_fields::{FieldsQuestion, fields_block, fields_object};
 use fixed_names::format_of_name;
 use fixed_numeral::Radix;
 use fixed_show::{
     Form, MAX_BLOCK, MAX_OBJECT, Part, bits_block, bits_object, format_block, format_object,
-    part_block, part_object, push_refused_object, show_block, show_object,
+    part_block, part_object, push_refusal, push_refused_object, show_block, show_object,
 };
 use fixed_steps::Steps;
 use line_engine::{Failed, Sink, Status, write_whole};
@@ -30,7 +32,7 @@ use std::sync::ledger::Ledger;
 use text_buffer::TextBuffer;
 
 /// A question about a word.
-#[derive(Clone, Copy, Debug, PartialEq, Eq)]
+#[derive(Clone, Copy)]
 pub enum Question {
     /// All facts of a numeral in a format.
     Show {
@@ -59,62 +61,66 @@ pub enum Question {
         /// The format.
         format: fixed_bits::Format,
     },
+    /// The numbers of several fields of a register word.
+    Fields(FieldsQuestion),
     /// The amount of a numeral or a count of units.
     Amount(AmountQuestion),
     /// The range of the format that the word names.
     Format,
 }
 
-/// Appends the block of the decimal format that a word names, or a fault if it names none. Returns true if it names
-/// none.
-#[tactic(auto, unfolding(fixed_show::specs::Blocks::line))]
-fn push_decimal_block<const N: usize>(word: &[u8], out: &mut TextBuffer<N>) -> bool
+/// Appends the block of the decimal format that a word names, or a fault if it names none. Returns the message of the
+/// fault.
+fn push_decimal_block<const N: usize>(word: &[u8], out: &mut TextBuffer<N>) -> Option<&'static str>
     requires { length out.old + MAX_BLOCK ≤ N }
     ensures block { show_blocks.Appends (λ text. IsDecimalAnswer Lines word.now
-        (record { text = text; fault = result })) MAX_BLOCK out.old out.new }
+        (record { text = text; fault = is_some result })) MAX_BLOCK out.old out.new }
+    ensures refused { IfSome result (λ m. out.new ≡ out.old ++ refused_text Lines word.now m.now) }
 {
     match decimal_format_named(word) {
         Some(format) => {
             decimal_format_block(format, out);
-            false
+            None
         }
         None => {
-            out.push_bytes(b"error: bad format\n");
-            true
+            push_refusal(out, Form::Lines, "bad format");
+            Some("bad format")
         }
     }
 }
 
-/// Appends the block of the format that a word names, or a fault if it names none. Returns true if it names none.
+/// Appends the block of the format that a word names, or a fault if it names none. Returns the message of the fault.
 fn push_format<const N: usize, L: Ledger>(
     word: &[u8],
     out: &mut TextBuffer<N>,
     steps: &mut Steps<L>,
-) -> bool
+) -> Option<&'static str>
     requires { length out.old + MAX_BLOCK ≤ N }
     ensures block { show_blocks.Appends (λ text. IsFormatAnswer Lines word.now
-        (record { text = text; fault = result })) MAX_BLOCK out.old out.new }
+        (record { text = text; fault = is_some result })) MAX_BLOCK out.old out.new }
+    ensures refused { IfSome result (λ m. out.new ≡ out.old ++ refused_text Lines word.now m.now) }
     ensures cost { steps.new ≤ steps.old + 96 }
 {
     match format_of_name(word) {
         Some(format) => {
             format_block(format, out, steps);
-            false
+            None
         }
         None => push_decimal_block(word, out),
     }
 }
 
-/// Appends the block that answers a question about a word. Returns true if it reports a fault.
+/// Appends the block that answers a question about a word. Returns the message of the fault if it reports one.
 pub(crate) fn push_block<const N: usize, L: Ledger>(
     question: &Question,
     word: &[u8],
     out: &mut TextBuffer<N>,
     steps: &mut Steps<L>,
-) -> bool
+) -> Option<&'static str>
     requires { length out.old + MAX_BLOCK ≤ N }
-    ensures block { show_blocks.Appends (λ text. IsBlock question.now word.now (record { text = text; fault = result }))
-        MAX_BLOCK out.old out.new }
+    ensures block { show_blocks.Appends (λ text. IsBlock question.now word.now
+        (record { text = text; fault = is_some result })) MAX_BLOCK out.old out.new }
+    ensures refused { IfSome result (λ m. out.new ≡ out.old ++ refused_text Lines word.now m.now) }
     ensures cost { steps.new ≤ steps.old + 26 * length word.now + 3307 }
 {
     match question {
@@ -130,60 +136,64 @@ pub(crate) fn push_block<const N: usize, L: Ledger>(
             part,
             format,
         } => part_block(word, *radix, *part, *format, out, steps),
+        Question::Fields(question) => fields_block(question, word, out, steps),
         Question::Amount(question) => amount_block(question, word, out, steps),
         Question::Format => push_format(word, out, steps),
     }
 }
 
-/// Appends the object of the decimal format that a word names, or a fault if it names none. Returns true if it names
-/// none.
-fn push_decimal_object<const N: usize>(word: &[u8], out: &mut TextBuffer<N>) -> bool
+/// Appends the object of the decimal format that a word names, or a fault if it names none. Returns the message of the
+/// fault.
+fn push_decimal_object<const N: usize>(word: &[u8], out: &mut TextBuffer<N>) -> Option<&'static str>
     requires { length out.old + MAX_OBJECT ≤ N }
     ensures object { show_blocks.Appends (λ text. IsDecimalAnswer Members word.now
-        (record { text = text; fault = result })) MAX_OBJECT out.old out.new }
+        (record { text = text; fault = is_some result })) MAX_OBJECT out.old out.new }
+    ensures refused { IfSome result (λ m. out.new ≡ out.old ++ refused_text Members word.now m.now) }
 {
     match decimal_format_named(word) {
         Some(format) => {
             decimal_format_object(word, format, out);
-            false
+            None
         }
         None => {
             push_refused_object(out, word, "bad format");
-            true
+            Some("bad format")
         }
     }
 }
 
-/// Appends the object of the format that a word names, or a fault if it names none. Returns true if it names none.
+/// Appends the object of the format that a word names, or a fault if it names none. Returns the message of the fault.
 fn push_format_object<const N: usize, L: Ledger>(
     word: &[u8],
     out: &mut TextBuffer<N>,
     steps: &mut Steps<L>,
-) -> bool
+) -> Option<&'static str>
     requires { length out.old + MAX_OBJECT ≤ N }
     ensures object { show_blocks.Appends (λ text. IsFormatAnswer Members word.now
-        (record { text = text; fault = result })) MAX_OBJECT out.old out.new }
+        (record { text = text; fault = is_some result })) MAX_OBJECT out.old out.new }
+    ensures refused { IfSome result (λ m. out.new ≡ out.old ++ refused_text Members word.now m.now) }
     ensures cost { steps.new ≤ steps.old + 96 }
 {
     match format_of_name(word) {
         Some(format) => {
             format_object(word, format, out, steps);
-            false
+            None
         }
         None => push_decimal_object(word, out),
     }
 }
 
-/// Appends the object that answers a question about a word. Returns true if it reports a fault.
+/// Appends the object that answers a question about a word. Returns the message of the fault if it reports one.
 fn push_object<const N: usize, L: Ledger>(
     question: &Question,
     word: &[u8],
     out: &mut TextBuffer<N>,
     steps: &mut Steps<L>,
-) -> bool
+) -> Option<&'static str>
     requires { length out.old + MAX_OBJECT ≤ N }
     ensures object { show_blocks.Appends (λ text. IsObject question.now word.now
-        (record { text = text; fault = result })) MAX_OBJECT out.old out.new }
+        (record { text = text; fault = is_some result })) MAX_OBJECT out.old out.new }
+    ensures refused { IfSome result (λ m. out.new ≡ out.old ++ refused_text Members word.now m.now) }
     ensures cost { steps.new ≤ steps.old + 26 * length word.now + 3307 }
 {
     match question {
@@ -199,6 +209,7 @@ fn push_object<const N: usize, L: Ledger>(
             part,
             format,
         } => part_object(word, *radix, *part, *format, out, steps),
+        Question::Fields(question) => fields_object(question, word, out, steps),
         Question::Amount(question) => amount_object(question, word, out, steps),
         Question::Format => push_format_object(word, out, steps),
     }
@@ -230,34 +241,37 @@ pub(crate) fn push_head<const N: usize>(out: &mut TextBuffer<N>, word: &[u8])
     out.push(b'\n');
 }
 
-/// Appends a line of a word and the block that answers a question about it. Returns true if the block reports a fault.
+/// Appends a line of a word and the block that answers a question about it. Returns the message of the fault if the
+/// block reports one.
 fn push_headed<const N: usize, L: Ledger>(
     question: &Question,
     word: &[u8],
     out: &mut TextBuffer<N>,
     steps: &mut Steps<L>,
-) -> bool
+) -> Option<&'static str>
     requires { length out.old + MAX_HEADED ≤ N }
     ensures block { show_blocks.Appends (λ text. IsHeaded question.now word.now
-        (record { text = text; fault = result })) MAX_HEADED out.old out.new }
+        (record { text = text; fault = is_some result })) MAX_HEADED out.old out.new }
+    ensures refused { IfSome result (λ m. out.new ≡ out.old ++ refused_answer Lines word.now m.now) }
     ensures cost { steps.new ≤ steps.old + 26 * length word.now + 3307 }
 {
     push_head(out, word);
     push_block(question, word, out, steps)
 }
 
-/// Appends the answer to a question about a word in a form, at most `MAX_OBJECT` bytes. Returns true if it reports a
-/// fault.
+/// Appends the answer to a question about a word in a form, at most `MAX_OBJECT` bytes. Returns the message of the
+/// fault if it reports one.
 pub(crate) fn push_answer<const N: usize, L: Ledger>(
     form: Form,
     question: &Question,
     word: &[u8],
     out: &mut TextBuffer<N>,
     steps: &mut Steps<L>,
-) -> bool
+) -> Option<&'static str>
     requires { length out.old + MAX_OBJECT ≤ N }
     ensures answer { show_blocks.Appends (λ text. IsAnswered form question.now word.now
-        (record { text = text; fault = result })) MAX_OBJECT out.old out.new }
+        (record { text = text; fault = is_some result })) MAX_OBJECT out.old out.new }
+    ensures refused { IfSome result (λ m. out.new ≡ out.old ++ refused_answer form word.now m.now) }
     ensures cost { steps.new ≤ steps.old + 26 * length word.now + 3307 }
 {
     match form {
@@ -307,17 +321,10 @@ fn write_answer<K: Sink, L: Ledger>(
 {
     let mut out: TextBuffer<8002> = TextBuffer::new();
     push_lead(&mut out, form, has_begun);
-    let is_fault = push_answer(form, question, word, &mut out, steps);
+    let refused = push_answer(form, question, word, &mut out, steps);
     push_ending(&mut out, form);
     write_whole(sink, out.as_bytes())?;
-    Ok(is_fault)
-}
-
-/// Whether one of two conditions holds.
-fn is_either(one: bool, other: bool) -> bool
-    ensures { result ≡ (one || other) }
-{
-    one || other
+    Ok(refused.is_some())
 }
 
 /// Writes an answer about each word in a form, in order: blocks with an empty line between two, or objects, each on a
@@ -338,7 +345,7 @@ pub fn run_blocks<K: Sink, L: Ledger>(
     while !rest.is_empty() {
         match write_answer(form, question, rest[0].as_bytes(), has_begun, sink, steps) {
             Err(_) => return Status::WriteFault,
-            Ok(is_fault) => has_fault = is_either(has_fault, is_fault),
+            Ok(is_fault) => has_fault |= is_fault,
         }
         has_begun = true;
         rest = &rest[1..];

@@ -3,7 +3,7 @@
 //! No line is made of these words and a numeral: it exists in the clauses only. Its length counts, so a numeral is too
 //! long exactly if that line is.
 
-ghost use Rattle.std.specs.Prelude.{◌≡◌, ◌↔◌, ◌+◌, ◌*◌, ◌-◌, ◌/◌, ◌^◌, ◌≤◌, ◌<◌, ◌++◌, [], ◌||◌, IfErr, IfOk, IsTrue};
+ghost use Rattle.std.specs.Prelude.{◌≡◌, ◌↔◌, ◌+◌, ◌*◌, ◌≤◌, ◌<◌, ◌++◌, [], IfErr, IfOk, IsTrue};
 ghost use Rattle.std.specs.Prelude.{IfSome, MatchOption, MatchResult, false, length, true};
 ghost use Rattle.fixed_bits.specs.Formats.{IsFormat};
 ghost use Rattle.fixed_bits.specs.Numbers.{number_of_image};
@@ -22,12 +22,11 @@ ghost use Rattle.fixed_numeral.specs.Messages.{message_of};
 ghost use Rattle.fixed_respell.specs.Answer.{respelled_answer};
 ghost use Rattle.fixed_respell.specs.Language.{fault_answer};
 ghost use Rattle.fixed_respell.specs.LineWords.{longest_line};
-ghost use Rattle.fixed_write.specs.Places.{IsExact, exact_text, rounded_text};
+ghost use Rattle.fixed_write.specs.Places.{rounded_text};
 ghost use Rattle.fixed_write.specs.Texts.{shortest_text};
 
 use crate::hex::{push_digits, push_hex};
 use crate::message::Message;
-use crate::outcome::magnitude_of;
 use crate::print::Print;
 use crate::spelling::Spelling;
 use crate::words::{mode_name, policy_name, radix_name};
@@ -37,7 +36,7 @@ use fixed_numeral::{ParseErrorKind, ParseFixedError, Radix};
 use fixed_respell::{LineFault, format_name, push_fault, push_respelled, reached_image};
 use fixed_show::{Shown, read_shown, read_word};
 use fixed_steps::Steps;
-use fixed_write::{push_decimal, push_signed_integer, push_signed_shortest};
+use fixed_write::{push_decimal, push_signed_exact, push_signed_integer, push_signed_shortest};
 use line_engine::{MAX_ANSWER, MAX_LINE, Output};
 use run_engine::{LineRule, Rule, push_error};
 use std::marker::Model;
@@ -101,7 +100,7 @@ fn push_part<const N: usize, L: Ledger>(
         Print::Bits => push_signed_integer(out, negative, magnitude),
         Print::Hex => push_hex(out, format, image.number()),
         Print::Readmemh => push_digits(out, format, image.number()),
-        Print::Value => push_value(out, format, image.number()),
+        Print::Value => push_signed_exact(out, negative, magnitude, frac_of(format)),
         Print::All => push_respelled(out, image, frac_of(format), steps),
     }
 }
@@ -121,28 +120,6 @@ fn push_places<const N: usize>(
     ensures short { length out.new ≤ length out.old + 130 }
 {
     push_decimal(out, bits, frac_of(format), places, mode);
-}
-
-/// Returns the fewest places that write a magnitude in ulps of 2^-`frac` exactly.
-fn exact_places(magnitude: u64, frac: u32) -> u32
-    requires { frac ≤ 64 }
-    ensures most { result ≤ frac }
-    ensures exact { IsExact 10 magnitude frac result (magnitude * 10 ^ result / 2 ^ frac) }
-{
-    frac.saturating_sub(magnitude.trailing_zeros())
-}
-
-/// Appends the exact value of bits of a format.
-// To a count of places: `push_exact` writes one digit after another.
-fn push_value<const N: usize>(out: &mut TextBuffer<N>, format: Format, bits: i128)
-    requires wide { IsWide bits }
-    requires room { length out.old + 130 ≤ N }
-    ensures appended { out.new ≡ out.old ++ exact_text 10 false bits format.frac }
-    ensures short { length out.new ≤ length out.old + 130 }
-{
-    let frac = frac_of(format);
-    let places = exact_places(magnitude_of(bits), frac);
-    push_decimal(out, bits, frac, places, ReadMode::TowardsZero);
 }
 
 /// A format's fraction length.
@@ -441,7 +418,7 @@ fn image_of(settings: &Settings, found: &Shown) -> Option<Image>
             Some(Image {
                 negative,
                 magnitude,
-                is_out_of_range: is_either(found.overflowed, target_overflowed),
+                is_out_of_range: found.overflowed | target_overflowed,
             })
         }
         None => None,
@@ -471,13 +448,6 @@ pub fn push_image<const N: usize, L: Ledger>(
             true
         }
     }
-}
-
-/// Whether one of two holds.
-pub(crate) fn is_either(one: bool, other: bool) -> bool
-    ensures { result ≡ (one || other) }
-{
-    one || other
 }
 
 /// A line without one carriage return at its end.

@@ -1,8 +1,12 @@
 //! Lines as people write them, answered by another rule.
 
-ghost use Rattle.std.specs.Prelude.{◌≡◌, ◌+◌, ◌*◌, ◌≤◌, ◌<◌, None, length};
+ghost use Rattle.std.specs.Prelude.{◌≡◌, ◌+◌, ◌*◌, ◌<◌, List, ℕ, None};
 
+use crate::convert::without_return;
 use crate::layout::Layout;
+use crate::line_blocks::BlockRule;
+use fixed_enclose::EncloseRule;
+use fixed_respell::RespellRule;
 use fixed_steps::Steps;
 use line_engine::{MAX_LINE, Output};
 use run_engine::{LineRule, Refusals, Rule, Watch};
@@ -76,7 +80,42 @@ impl<R: LineRule<L>, L: Ledger> LineRule<L> for LaidOutLines<R> {
         (R.kept_law laid.rule) };
 }
 
-/// The refused lines, each as it was answered: their count, and the first.
+/// A rule with a part of each refused line that a report shows.
+pub trait Recorded {
+    ghost recorded: { List ℕ → List ℕ };
+
+    /// Returns the part of a line that a report shows.
+    fn recorded_line(line: &[u8]) -> &[u8]
+        ensures { result.now ≡ recorded line.now };
+}
+
+impl Recorded for RespellRule {
+    ghost recorded = { λ line. line };
+
+    fn recorded_line(line: &[u8]) -> &[u8] {
+        line
+    }
+}
+
+impl Recorded for EncloseRule {
+    ghost recorded = { λ line. line };
+
+    fn recorded_line(line: &[u8]) -> &[u8] {
+        line
+    }
+}
+
+impl Recorded for BlockRule {
+    ghost use Rattle.fixed_command.specs.Convert.{without_return};
+
+    ghost recorded = { without_return };
+
+    fn recorded_line(line: &[u8]) -> &[u8] {
+        without_return(line)
+    }
+}
+
+/// The refused lines, each by its recorded part as it was answered: their count, and the first.
 #[derive(Drop)]
 pub struct LaidRefusals<C> {
     pub refusals: Refusals<C>,
@@ -94,14 +133,15 @@ impl<C> LaidRefusals<C> {
     }
 }
 
-impl<C: Copy, R: Rule<L, Cause = C>, L: Ledger> Watch<LaidOutLines<R>, L> for LaidRefusals<C> {
+impl<C: Copy, R: Rule<L, Cause = C> + Recorded, L: Ledger> Watch<LaidOutLines<R>, L>
+    for LaidRefusals<C> {
     ghost use Rattle.fixed_command.specs.Observed.{SawLaid};
 
     ghost PER_BYTE = { 0 };
 
     ghost EXTRA = { 0 };
 
-    ghost Saw = { λ laid watch number line result then. SawLaid laid.layout watch.refusals number line result
+    ghost Saw = { λ laid watch number line result then. SawLaid R.recorded laid.layout watch.refusals number line result
         then.refusals };
 
     #[inline]
@@ -114,8 +154,9 @@ impl<C: Copy, R: Rule<L, Cause = C>, L: Ledger> Watch<LaidOutLines<R>, L> for La
         _steps: &mut Steps<L>,
     ) {
         if let Err(cause) = returned {
+            let answered = rule.layout.answered(line);
             self.refusals
-                .refuse(number, rule.layout.answered(line), *cause);
+                .refuse(number, R::recorded_line(answered), *cause);
         }
     }
 }

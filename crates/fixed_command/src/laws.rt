@@ -28,7 +28,7 @@ pub fn reply_is_the_one()
     ensures line { LineReplyIsTheOne }
 {}
 
-/// At most one operand is the first refused one, and it has one block.
+/// At most one operand is the first refused one, and it has one cause.
 pub fn first_refused_is_the_one()
     ensures { FirstRefusedIsTheOne }
 {}

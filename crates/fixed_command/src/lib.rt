@@ -5,7 +5,6 @@
 #![tactic(auto)]
 
 pub mod amounts;
-pub mod bit_field;
 pub mod blocks;
 pub mod column;
 pub mod convert;
@@ -36,7 +35,6 @@ pub mod watch;
 pub mod words;
 
 pub use amounts::{AmountLines, amount_field_explanation, run_amounts};
-pub use bit_field::field_named;
 pub use blocks::{Question, run_blocks};
 pub use column::{ColumnConversion, convert_amounts, convert_column};
 pub use convert::{ConvertRule, Settings, push_image, without_return};

@@ -3,15 +3,18 @@
 //! An empty line follows each block, also the last, so that a reader of the answers from a pipe knows that a block is
 //! complete. Between the blocks of a command line's words it only separates two.
 
-ghost use Rattle.std.specs.Prelude.{◌≡◌, ◌+◌, ◌*◌, ◌++◌, ◌≤◌, length};
-ghost use Rattle.line_engine.specs.Output.{AppendsAnswer};
-ghost use Rattle.fixed_command.specs.LineBlocks.{HasFormat, IsLineBlock, long_answer};
+ghost use Rattle.std.specs.Prelude.{◌≡◌, ◌+◌, ◌++◌, ◌≤◌, length};
+ghost use Rattle.fixed_command.specs.Blocks.{refused_answer};
+ghost use Rattle.fixed_command.specs.LineBlocks.{HasFormat, given_line};
 
 use crate::blocks::{Question, push_answer, push_head};
 use crate::convert::without_return;
-use fixed_show::{Form, MAX_OBJECT, push_refused_object};
+use crate::layout::too_long;
+use crate::message::Message;
+use fixed_show::{Form, MAX_OBJECT, push_fact, push_given};
 use fixed_steps::Steps;
-use line_engine::{LineRule, MAX_LINE, Output};
+use line_engine::{MAX_LINE, Output};
+use run_engine::{LineRule, Rule};
 use std::sync::ledger::Ledger;
 use text_buffer::TextBuffer;
 
@@ -38,51 +41,52 @@ fn check_format(question: Question)
         Question::Part { format, .. } => {
             let _frac = format.frac();
         }
+        Question::Fields(_) => (),
         Question::Amount(_) => (),
         Question::Format => (),
     }
 }
 
-/// Appends the answer to a line that is too long.
-#[tactic(auto, unfolding(fixed_show::specs::Blocks::line))]
-fn push_long<const N: usize>(form: Form, line: &[u8], out: &mut TextBuffer<N>)
-    requires { length out.old + MAX_OBJECT ≤ N }
-    ensures appended { out.new ≡ out.old ++ (long_answer form line.now).text }
-    ensures short { length out.new ≤ length out.old + MAX_OBJECT }
+/// Returns the line that an answer shows: without one carriage return at its end, unless it is too long.
+fn given_line(line: &[u8]) -> &[u8]
+    ensures { result.now ≡ given_line line.now }
+{
+    if line.len() > MAX_LINE {
+        line
+    } else {
+        without_return(line)
+    }
+}
+
+/// Appends the answer that refuses a word with a message.
+#[tactic(auto, unfolding(fixed_show::specs::Blocks::line, fixed_show::specs::JsonText::object_text))]
+fn push_refused<const N: usize>(form: Form, word: &[u8], message: &str, out: &mut TextBuffer<N>)
+    requires { length out.old + (length message.now + 4700) ≤ N }
+    ensures { out.new ≡ out.old ++ refused_answer form word.now message.now }
 {
     match form {
         Form::Lines => {
-            push_head(out, line);
-            out.push_bytes(b"error: line too long\n");
+            push_head(out, word);
+            out.push_bytes(b"error: ");
+            out.push_bytes(message.as_bytes());
+            out.push(b'\n');
         }
-        Form::Members => push_refused_object(out, line, "line too long"),
+        Form::Members => {
+            push_given(out, word);
+            push_fact(out, Form::Members, b"refused", message.as_bytes());
+            out.push(b'}');
+        }
     }
 }
 
-/// Appends the answer to a line in a form: to a question about the line without one carriage return at its end, or that
-/// a line of more than 1,048,576 bytes is too long. Returns true if it reports a fault.
-pub(crate) fn push_line_block<const N: usize, L: Ledger>(
-    form: Form,
-    question: &Question,
-    line: &[u8],
-    out: &mut TextBuffer<N>,
-    steps: &mut Steps<L>,
-) -> bool
-    requires { length out.old + MAX_OBJECT ≤ N }
-    ensures block { AppendsAnswer (IsLineBlock form question.now) MAX_OBJECT line.now out.old out.new result }
-    ensures cost { steps.new ≤ steps.old + 26 * length line.now + 3307 }
-{
-    if line.len() > MAX_LINE {
-        push_long(form, line, out);
-        return true;
-    }
-    check_format(*question);
-    push_answer(form, question, without_return(line), out, steps)
-}
-
-impl<L: Ledger> LineRule<L> for BlockRule {
+impl<L: Ledger> Rule<L> for BlockRule {
     ghost use Rattle.std.proofs.Common.{lit<};
-    ghost use Rattle.fixed_command.specs.Lemmas.BlockLemmas.{line_block_one, long_by_its_prefix};
+    ghost use Rattle.fixed_command.specs.LineBlocks.{IsLineBlock, line_refusal};
+    ghost use Rattle.fixed_command.specs.Lemmas.BlockLemmas.{line_block_one};
+
+    type Note = ();
+
+    type Cause = Message;
 
     const PER_BYTE: u64 = 26;
 
@@ -98,13 +102,38 @@ impl<L: Ledger> LineRule<L> for BlockRule {
 
     ghost Answers = { λ asked. IsLineBlock asked.form asked.question };
 
-    fn answer(&self, line: &[u8], out: &mut Output, steps: &mut Steps<L>) -> bool {
-        push_line_block(self.form, &self.question, line, out, steps)
+    ghost Notes = { λ asked line note. Unit {0} };
+
+    ghost refusal = { λ asked. line_refusal asked.form };
+
+    fn answer(&self, line: &[u8], out: &mut Output, steps: &mut Steps<L>) -> Result<(), Message> {
+        if line.len() > MAX_LINE {
+            return Err(too_long());
+        }
+        check_format(self.question);
+        let start = out.len();
+        match push_answer(self.form, &self.question, without_return(line), out, steps) {
+            None => Ok(()),
+            Some(text) => {
+                out.truncate(start);
+                Err(Message { text })
+            }
+        }
+    }
+
+    fn push_refusal(&self, line: &[u8], cause: &Message, out: &mut Output) {
+        let mut text: TextBuffer<12_892> = TextBuffer::new();
+        push_refused(self.form, given_line(line), cause.text, &mut text);
+        out.push_bytes(text.as_bytes());
     }
 
     ghost room_law = { lit< tt };
 
     ghost one_law = { λ asked. line_block_one asked.form asked.question };
+}
+
+impl<L: Ledger> LineRule<L> for BlockRule {
+    ghost use Rattle.fixed_command.specs.Lemmas.BlockLemmas.{long_by_its_prefix};
 
     ghost kept_law = { λ asked. long_by_its_prefix asked.form asked.question };
 }

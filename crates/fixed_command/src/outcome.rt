@@ -3,7 +3,7 @@
 //! A report reads each numeral once more, so a conversion without a report costs nothing. After a failed write there is
 //! no report, because some of the counted answers were not written.
 
-ghost use Rattle.std.specs.Prelude.{◌≡◌, ◌↔◌, ◌<◌, ◌≤◌, ◌+◌, ◌*◌, ◌^◌, ◌++◌, ◌&&◌, [], IsTrue, length, unsigned_abs};
+ghost use Rattle.std.specs.Prelude.{◌≡◌, ◌↔◌, ◌<◌, ◌≤◌, ◌+◌, ◌*◌, ◌^◌, ◌++◌, [], IsTrue, length, unsigned_abs};
 ghost use Rattle.std.specs.Fmt.{decimal};
 ghost use Rattle.fixed_bits.specs.Ranges.{IsWide};
 ghost use Rattle.fixed_command.specs.Outcome.{IsOutcome, IsWholeMoved, IsWholeSource, first_of, first_text, noted};
@@ -12,7 +12,7 @@ ghost use Rattle.fixed_command.specs.Convert.{IsSource};
 ghost use Rattle.fixed_read.specs.Reading.{IsMultipleOf};
 ghost use Rattle.fixed_report.specs.Report.{HasReport};
 
-use crate::convert::{Settings, frac_of, is_either, source_number};
+use crate::convert::{Settings, frac_of, source_number};
 use crate::spelling::Spelling;
 use fixed_convert::reformat_mode;
 use fixed_report::ErrorReport;
@@ -55,7 +55,7 @@ fn is_multiple(number: u128, exponent: u32) -> bool
 }
 
 /// Returns the magnitude of a number of at most 64 bits.
-pub(crate) fn magnitude_of(number: i128) -> u64
+fn magnitude_of(number: i128) -> u64
     requires { IsWide number }
     ensures { result ≡ unsigned_abs number }
 {
@@ -80,13 +80,6 @@ fn is_whole_moved(number: i128, from: u32, to: u32) -> bool
     is_multiple(scaled(magnitude_of(number), to), from)
 }
 
-/// Whether both conditions hold.
-fn is_both(one: bool, other: bool) -> bool
-    ensures { result ≡ (one && other) }
-{
-    one && other
-}
-
 /// Whether nothing is rounded, neither into the source nor on the way to the target.
 fn is_exact(settings: &Settings, numeral: &[u8], number: i128, is_whole: bool) -> bool
     requires wide { IsWide number }
@@ -96,7 +89,7 @@ fn is_exact(settings: &Settings, numeral: &[u8], number: i128, is_whole: bool) -
 {
     let from = frac_of(settings.source);
     let to = frac_of(settings.target);
-    is_both(is_whole, is_whole_moved(number, from, to))
+    is_whole & is_whole_moved(number, from, to)
 }
 
 /// Returns the outcome, by whether a number was out of its format, and whether nothing was rounded.
@@ -124,7 +117,7 @@ fn moved_outcome(settings: &Settings, numeral: &[u8], found: &Shown) -> Outcome
     match reformat_mode(s.target, s.policy, s.target_mode, found.bits, from) {
         None => Outcome::Refused,
         Some((_bits, target_overflowed)) => {
-            let is_overflowed = is_either(found.overflowed, target_overflowed);
+            let is_overflowed = found.overflowed | target_overflowed;
             outcome_by(
                 is_overflowed,
                 is_exact(s, numeral, found.bits, found.is_exact),
@@ -221,6 +214,13 @@ impl Tally {
             first_overflowed: 0,
             first_refused: 0,
         }
+    }
+
+    /// Counts all numerals, up to the greatest count.
+    pub fn total(&self) -> u64
+        ensures { result ≡ total self.now }
+    {
+        total_of(self)
     }
 
     /// Counts an outcome, in the line or record of this number.

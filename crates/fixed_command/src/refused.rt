@@ -1,6 +1,6 @@
 //! The first refused word of several.
 
-ghost use Rattle.std.specs.Prelude.{◌≡◌, All, MatchOption, map};
+ghost use Rattle.std.specs.Prelude.{All, MatchOption, map};
 ghost use Rattle.fixed_command.specs.Refused.{IsClean, IsFirstRefused};
 
 use crate::blocks::{Question, push_block};
@@ -14,8 +14,8 @@ use text_buffer::TextBuffer;
 pub struct RefusedWord {
     /// Its index among the words, from 0.
     pub place: usize,
-    /// The block that says why.
-    pub block: TextBuffer<MAX_BLOCK>,
+    /// Why it is refused.
+    pub cause: &'static str,
 }
 
 /// Returns the first word that the question refuses. `None` if it refuses none.
@@ -25,14 +25,15 @@ pub fn first_refused<L: Ledger>(
     steps: &mut Steps<L>,
 ) -> Option<RefusedWord>
     ensures { MatchOption result (All (IsClean question.now) (map (λ w. w.now) words.now))
-        (λ r. IsFirstRefused question.now (map (λ w. w.now) words.now) r.place r.block) }
+        (λ r. IsFirstRefused question.now (map (λ w. w.now) words.now) r.place r.cause.now) }
 {
     let mut place = 0;
     let mut rest = words;
     while !rest.is_empty() {
         let mut block: TextBuffer<MAX_BLOCK> = TextBuffer::new();
-        if push_block(question, rest[0].as_bytes(), &mut block, steps) {
-            return Some(RefusedWord { place, block });
+        match push_block(question, rest[0].as_bytes(), &mut block, steps) {
+            Some(cause) => return Some(RefusedWord { place, cause }),
+            None => (),
         }
         place += 1;
         rest = &rest[1..];

@@ -8,17 +8,19 @@ ghost use Rattle.fixed_constants.specs.Plain.{IsPlainAnswer};
 ghost use Rattle.fixed_columns.specs.Answer as columns;
 ghost use Rattle.fixed_enclose.specs.Answer as enclose;
 ghost use Rattle.fixed_respell.specs.Answer.{IsAnswer, fault_message};
-ghost use Rattle.fixed_command.specs.Convert.{IsLineReply, IsReply};
+ghost use Rattle.fixed_command.specs.Convert.{IsLineReply, IsReply, without_return};
 ghost use Rattle.fixed_command.specs.Errors.{IsErrorLine};
 ghost use Rattle.fixed_command.specs.LaidList.{laid_out};
 ghost use Rattle.fixed_command.specs.Layout.{AnswersLaidOut, IsLaidOut};
 ghost use Rattle.fixed_command.specs.LeastLines.{IsLeastWritten};
 ghost use Rattle.fixed_command.specs.Limits.{limit_of, max_limit, no_limit, whole_limit_of};
-ghost use Rattle.fixed_command.specs.LineBlocks.{IsLineBlock};
+ghost use Rattle.fixed_command.specs.LineBlocks.{IsLineBlock, line_refusal};
+ghost use Rattle.fixed_command.specs.Message.{message_text};
 ghost use Rattle.fixed_command.specs.Products.{IsProduct};
 ghost use Rattle.fixed_command.specs.Renamed.{IsRenamedAnswer};
 ghost use Rattle.fixed_command.specs.Reports.{ReportsCounted, ReportsLaid, ReportsRefused, ReportsReturned};
-ghost use Rattle.fixed_command.specs.Reports.{TaskReports};
+ghost use Rattle.fixed_command.specs.Reports.{TaskReports, block_rule, message_of};
+ghost use Rattle.fixed_command.specs.declared.line_blocks.BlockRule.{BlockRule};
 ghost use Rattle.fixed_enclose.specs.declared.rule.EncloseRule.{EncloseRule};
 ghost use Rattle.fixed_respell.specs.Refusal.{refusal_message, refusal_text};
 ghost use Rattle.fixed_respell.specs.declared.respell_rule.RespellRule.{RespellRule};
@@ -38,7 +40,7 @@ use crate::line_blocks::BlockRule;
 use crate::observed::{CountedRule, LineReport, RefusedLines, reported};
 use crate::outcome::Tally;
 use crate::renamed::RenamedRule;
-use crate::watch::{LaidOutBlocks, Product, Refusals, Watch, WatchedBlocks, WatchedWhole};
+use crate::watch::{Product, Refusals, Watch, WatchedWhole};
 use fixed_columns::ColumnsRule;
 use fixed_constants::{FormRule, PlainRule};
 use fixed_enclose::EncloseRule;
@@ -46,10 +48,7 @@ use fixed_report::ErrorReport;
 use fixed_respell::RespellRule;
 use fixed_show::Form;
 use fixed_steps::Steps;
-use line_engine::{
-    LineRule as AskedRule, MAX_LIMIT, NO_LIMIT, Sink, Source, Status, WholeRule, run_lines,
-    run_whole,
-};
+use line_engine::{MAX_LIMIT, NO_LIMIT, Sink, Source, Status, WholeRule, run_whole};
 use run_engine::{LineRule, LinesEnd, Refusals as Refused, Watch as Observer, run_watched};
 use std::alloc::Global;
 use std::marker::Model;
@@ -185,28 +184,6 @@ fn run_rule<R: LineRule<L>, W: Observer<R, L> + Drop, S: Source, K: Sink, L: Led
     run_watched(alloc, bytes_within(limit), rule, watch, source, sink, steps)
 }
 
-/// Answers each line of an input by a rule for questions.
-fn run_asked<R: AskedRule<L>, S: Source, K: Sink, L: Ledger>(
-    alloc: Global,
-    limit: u64,
-    rule: &R,
-    source: &mut S,
-    sink: &mut K,
-    steps: &mut Steps<L>,
-) -> Status
-    requires some { 1 ≤ limit }
-    requires most { limit ≤ no_limit }
-    ensures run { HasLineRun (R.Answers rule.now) limit R.PER_BYTE R.EXTRA
-        (outside (S.left source.old) (S.asked source.old) (S.failures source.old)
-        (K.written sink.old) (K.failures sink.old) steps.old)
-        (outside (S.left source.new) (S.asked source.new) (S.failures source.new)
-        (K.written sink.new) (K.failures sink.new) steps.new) result }
-    ensures memory { result ≡ Status.NoMemory → (source.new ≡ source.old) × (sink.new ≡ sink.old)
-        × (steps.new ≡ steps.old) }
-{
-    run_lines(alloc, limit, rule, source, sink, steps)
-}
-
 /// Answers a whole input by a rule.
 fn run_whole_rule<R: WholeRule<L>, S: Source, K: Sink, L: Ledger>(
     alloc: Global,
@@ -297,8 +274,8 @@ fn run_laid_words<S: Source, K: Sink, L: Ledger>(
         (K.written sink.old) (K.failures sink.old) steps.old)
         (outside (S.left source.new) (S.asked source.new) (S.failures source.new)
         (K.written sink.new) (K.failures sink.new) steps.new) result.status }
-    ensures reports { ¬ (result.status ≡ Status.NoMemory) → ReportsLaid RespellRule layout.now IsAnswer
-        (refusal_text fault_message) (refusal_message fault_message) 8 624 (limit_of limit.now)
+    ensures reports { ¬ (result.status ≡ Status.NoMemory) → ReportsLaid RespellRule (λ line. line) layout.now
+        IsAnswer (refusal_text fault_message) (refusal_message fault_message) 8 624 (limit_of limit.now)
         (outside (S.left source.old) (S.asked source.old) (S.failures source.old)
         (K.written sink.old) (K.failures sink.old) steps.old)
         (outside (S.left source.new) (S.asked source.new) (S.failures source.new)
@@ -368,8 +345,9 @@ fn run_laid_enclosures<S: Source, K: Sink, L: Ledger>(
         (K.written sink.old) (K.failures sink.old) steps.old)
         (outside (S.left source.new) (S.asked source.new) (S.failures source.new)
         (K.written sink.new) (K.failures sink.new) steps.new) result.status }
-    ensures reports { ¬ (result.status ≡ Status.NoMemory) → ReportsLaid EncloseRule layout.now enclose.IsAnswer
-        (refusal_text enclose.fault_message) (refusal_message enclose.fault_message) 16 1248 (limit_of limit.now)
+    ensures reports { ¬ (result.status ≡ Status.NoMemory) → ReportsLaid EncloseRule (λ line. line) layout.now
+        enclose.IsAnswer (refusal_text enclose.fault_message) (refusal_message enclose.fault_message) 16 1248
+        (limit_of limit.now)
         (outside (S.left source.old) (S.asked source.old) (S.failures source.old)
         (K.written sink.old) (K.failures sink.old) steps.old)
         (outside (S.left source.new) (S.asked source.new) (S.failures source.new)
@@ -407,14 +385,25 @@ fn run_questions<S: Source, K: Sink, L: Ledger>(
         (K.written sink.old) (K.failures sink.old) steps.old)
         (outside (S.left source.new) (S.asked source.new) (S.failures source.new)
         (K.written sink.new) (K.failures sink.new) steps.new) result.status }
+    ensures reports { ¬ (result.status ≡ Status.NoMemory) → ReportsReturned (block_rule form question)
+        (IsLineBlock form question) (line_refusal form) 26 3307 (limit_of limit.now)
+        (outside (S.left source.old) (S.asked source.old) (S.failures source.old)
+        (K.written sink.old) (K.failures sink.old) steps.old)
+        (outside (S.left source.new) (S.asked source.new) (S.failures source.new)
+        (K.written sink.new) (K.failures sink.new) steps.new) result }
     ensures memory { result.status ≡ Status.NoMemory → sink.new ≡ sink.old }
 {
-    let rule = WatchedBlocks {
-        rule: BlockRule { form, question },
-        watch: Watch::new(),
-    };
-    let status = run_asked(alloc, bytes_within(limit), &rule, source, sink, steps);
-    TaskEnd::of(status, rule.watch.refusals())
+    let rule = BlockRule { form, question };
+    let end = run_rule(
+        alloc,
+        limit,
+        &rule,
+        RefusedLines::new(),
+        source,
+        sink,
+        steps,
+    );
+    TaskEnd::of(end.status, reported(&end.watch.refusals))
 }
 
 /// Answers each line of an input, as people write them, in a form, as a question requests.
@@ -433,17 +422,28 @@ fn run_laid_questions<S: Source, K: Sink, L: Ledger>(
         (K.written sink.old) (K.failures sink.old) steps.old)
         (outside (S.left source.new) (S.asked source.new) (S.failures source.new)
         (K.written sink.new) (K.failures sink.new) steps.new) result.status }
+    ensures reports { ¬ (result.status ≡ Status.NoMemory) → ReportsLaid BlockRule without_return layout.now
+        (IsLineBlock rule.form rule.question) (line_refusal rule.form) message_of 26 3307 (limit_of limit.now)
+        (outside (S.left source.old) (S.asked source.old) (S.failures source.old)
+        (K.written sink.old) (K.failures sink.old) steps.old)
+        (outside (S.left source.new) (S.asked source.new) (S.failures source.new)
+        (K.written sink.new) (K.failures sink.new) steps.new) result }
     ensures memory { result.status ≡ Status.NoMemory → sink.new ≡ sink.old }
 {
-    let questions = LaidOutBlocks {
-        rule: WatchedBlocks {
-            rule,
-            watch: Watch::new(),
-        },
+    let laid = LaidOutLines {
+        rule,
         layout: layout.same(),
     };
-    let status = run_asked(alloc, bytes_within(limit), &questions, source, sink, steps);
-    TaskEnd::of(status, questions.rule.watch.refusals())
+    let end = run_rule(
+        alloc,
+        limit,
+        &laid,
+        LaidRefusals::new(),
+        source,
+        sink,
+        steps,
+    );
+    TaskEnd::of(end.status, reported(&end.watch.refusals))
 }
 
 /// Answers each line of an input with the conversion of its numeral. It allocates one line buffer before the first
@@ -461,8 +461,8 @@ pub fn run_convert<S: Source, K: Sink, L: Ledger>(
         (K.written sink.old) (K.failures sink.old) steps.old)
         (outside (S.left source.new) (S.asked source.new) (S.failures source.new)
         (K.written sink.new) (K.failures sink.new) steps.new) result.status }
-    ensures reports { ¬ (result.status ≡ Status.NoMemory) → ReportsReturned rule.now (IsLineReply rule.now) 8 624
-        (limit_of limit.now)
+    ensures reports { ¬ (result.status ≡ Status.NoMemory) → ReportsReturned rule.now (IsLineReply rule.now)
+        message_text 8 624 (limit_of limit.now)
         (outside (S.left source.old) (S.asked source.old) (S.failures source.old)
         (K.written sink.old) (K.failures sink.old) steps.old)
         (outside (S.left source.new) (S.asked source.new) (S.failures source.new)
@@ -489,7 +489,7 @@ fn run_laid_out<S: Source, K: Sink, L: Ledger>(
         (outside (S.left source.new) (S.asked source.new) (S.failures source.new)
         (K.written sink.new) (K.failures sink.new) steps.new) result.status }
     ensures reports { ¬ (result.status ≡ Status.NoMemory) → ReportsReturned laid.now
-        (IsLaidOut laid.now.layout (IsReply laid.now.rule)) 8 624 (limit_of limit.now)
+        (IsLaidOut laid.now.layout (IsReply laid.now.rule)) message_text 8 624 (limit_of limit.now)
         (outside (S.left source.old) (S.asked source.old) (S.failures source.old)
         (K.written sink.old) (K.failures sink.old) steps.old)
         (outside (S.left source.new) (S.asked source.new) (S.failures source.new)
@@ -514,8 +514,8 @@ fn run_errors<S: Source, K: Sink, L: Ledger>(
         (K.written sink.old) (K.failures sink.old) steps.old)
         (outside (S.left source.new) (S.asked source.new) (S.failures source.new)
         (K.written sink.new) (K.failures sink.new) steps.new) result.status }
-    ensures reports { ¬ (result.status ≡ Status.NoMemory) → ReportsReturned lines.now (IsErrorLine lines.now) 11 1565
-        (limit_of limit.now)
+    ensures reports { ¬ (result.status ≡ Status.NoMemory) → ReportsReturned lines.now (IsErrorLine lines.now)
+        message_text 11 1565 (limit_of limit.now)
         (outside (S.left source.old) (S.asked source.old) (S.failures source.old)
         (K.written sink.old) (K.failures sink.old) steps.old)
         (outside (S.left source.new) (S.asked source.new) (S.failures source.new)

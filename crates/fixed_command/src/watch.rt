@@ -1,22 +1,15 @@
-//! Wrappers that answer like the rule inside them and remember the refused lines. Contracts say what is kept of a line.
-//! They cannot describe the contents of a `Cell`; tests do.
+//! The refused lines that a report names, and a wrapper that answers a whole input like the rule inside it and
+//! remembers its refusal. Contracts say what is kept of a line. They cannot describe the contents of a `Cell`; tests
+//! do.
 
 ghost use Rattle.std.specs.Prelude.{◌≡◌, ◌==◌, ◌^◌, ◌<◌, List, None, ℕ, length, take};
-ghost use Rattle.fixed_command.specs.Outcome.{one_more};
 ghost use Rattle.fixed_command.specs.Products.{IsProduct};
 ghost use Rattle.fixed_command.specs.Watched.{first_refused, kept_bytes, line_at, refusal_text};
-ghost use Rattle.fixed_respell.specs.Language.{fault_answer};
 
 use crate::blocks::first_bytes;
-use crate::convert::without_return;
-use crate::layout::Layout;
-use crate::line_blocks::BlockRule;
 use crate::named_line::{line_and_message, line_at};
-use crate::outcome::one_more;
-use fixed_show::{Form, MAX_OBJECT};
 use fixed_steps::Steps;
-use line_engine::{LineRule, MAX_LINE, NoMemory, Output, WholeAnswer, WholeRule};
-use memchr::memrchr;
+use line_engine::{NoMemory, WholeAnswer, WholeRule};
 use std::alloc::Global;
 use std::cell::Cell;
 use std::sync::ledger::Ledger;
@@ -69,16 +62,6 @@ fn kept(bytes: &[u8]) -> TextBuffer<KEPT>
     text
 }
 
-/// Returns the text after `error: ` in an answer, or the whole answer if it begins otherwise.
-fn cause_of(answer: &[u8]) -> &[u8]
-    ensures { (message : List ℕ) → answer.now ≡ (fault_answer message).text → result.now ≡ message }
-{
-    match answer.strip_prefix(b"error: ".as_slice()) {
-        Some(cause) => cause,
-        None => answer,
-    }
-}
-
 /// The refused lines of an input: their count, and the first.
 #[derive(Drop)]
 pub struct Refusals {
@@ -112,33 +95,18 @@ impl Refusals {
             first: Some(RefusedLine::new(number, line_at(number, input), message)),
         }
     }
-
-    /// Notes that the line with this number is refused with this answer. Keeps the first one, with the cause in its
-    /// answer.
-    pub fn note(&mut self, number: u64, line: &[u8], answer: &[u8])
-        ensures count { self.new.count ≡ one_more self.old.count }
-        ensures first { (message : List ℕ) → answer.now ≡ (fault_answer message).text
-            → self.new.first ≡ first_refused self.old.first number line.now message }
-    {
-        self.count = one_more(self.count);
-        if self.first.is_none() {
-            self.first = Some(RefusedLine::new(number, line, cause_of(answer)));
-        }
-    }
 }
 
-/// The refused lines of an input, kept by a rule that is lent.
+/// The refusal of a whole input, kept by a rule that is lent.
 #[derive(Drop)]
 pub struct Watch {
-    lines: Cell<u64>,
     refusals: Cell<Refusals>,
 }
 
 impl Watch {
-    /// Returns a watch that has seen no line.
+    /// Returns a watch that has seen no refusal.
     pub fn new() -> Watch {
         Watch {
-            lines: Cell::new(0),
             refusals: Cell::new(Refusals::new()),
         }
     }
@@ -148,140 +116,10 @@ impl Watch {
         self.refusals.replace(Refusals::new())
     }
 
-    /// Counts a line.
-    fn pass(&self) {
-        self.lines.set(self.lines.get().wrapping_add(1));
-    }
-
-    /// Notes that the last counted line is refused with this answer.
-    #[inline(never)]
-    fn refuse(&self, line: &[u8], answer: &[u8]) {
-        let mut refusals = self.refusals();
-        refusals.note(self.lines.get(), line, answer);
-        self.refusals.set(refusals);
-    }
-
     /// Notes that an input is refused with this answer.
     fn refuse_input(&self, input: &[u8], answer: &[u8]) {
         self.refusals.set(Refusals::of_input(input, answer));
     }
-}
-
-/// The rule of questions about lines, with a watch over its refusals.
-#[derive(Drop)]
-pub struct WatchedBlocks {
-    /// The rule.
-    pub rule: BlockRule,
-    /// What is known about the lines.
-    pub watch: Watch,
-}
-
-/// Returns the part of a block after its first line, without the newline at its end.
-fn below_head(block: &[u8]) -> &[u8] {
-    let end = block.iter().position(|byte| *byte == b'\n').unwrap_or(0);
-    let rest = block.get(end.saturating_add(1)..).unwrap_or(&[]);
-    rest.strip_suffix(b"\n").unwrap_or(rest)
-}
-
-/// Returns the last text of an object, which is why its word is refused.
-fn last_text(object: &[u8]) -> &[u8] {
-    let texts = object.strip_suffix(b"\"}").unwrap_or(object);
-    match memrchr(b'"', texts) {
-        Some(quote) => texts.get(quote.saturating_add(1)..).unwrap_or(&[]),
-        None => texts,
-    }
-}
-
-impl<L: Ledger> LineRule<L> for WatchedBlocks {
-    ghost use Rattle.std.proofs.Common.{lit<};
-    ghost use Rattle.fixed_command.specs.LineBlocks.{IsLineBlock};
-    ghost use Rattle.fixed_command.specs.Lemmas.BlockLemmas.{line_block_one, long_by_its_prefix};
-
-    const PER_BYTE: u64 = 26;
-
-    const EXTRA: u64 = 3307;
-
-    const MAX_ANSWER: usize = MAX_OBJECT;
-
-    ghost PER_BYTE = { 26 };
-
-    ghost EXTRA = { 3307 };
-
-    ghost MAX_ANSWER = { 8000 };
-
-    ghost Answers = { λ watched. IsLineBlock watched.rule.form watched.rule.question };
-
-    fn answer(&self, line: &[u8], out: &mut Output, steps: &mut Steps<L>) -> bool {
-        self.watch.pass();
-        let start = out.len();
-        let is_fault = self.rule.answer(line, out, steps);
-        if is_fault {
-            let answer = out.as_bytes().get(start..).unwrap_or(&[]);
-            let cause = match self.rule.form {
-                Form::Lines => below_head(answer),
-                Form::Members => last_text(answer),
-            };
-            self.watch.refuse(without_return(line), cause);
-        }
-        is_fault
-    }
-
-    ghost room_law = { lit< tt };
-
-    ghost one_law = { λ watched. line_block_one watched.rule.form watched.rule.question };
-
-    ghost kept_law = { λ watched. long_by_its_prefix watched.rule.form watched.rule.question };
-}
-
-/// The rule of questions about lines as people write them: a skipped line is answered with an empty one.
-#[derive(Drop)]
-pub struct LaidOutBlocks {
-    /// The rule for a line without blanks.
-    pub rule: WatchedBlocks,
-    /// What a line has besides its numeral.
-    pub layout: Layout,
-}
-
-impl<L: Ledger> LineRule<L> for LaidOutBlocks {
-    ghost use Rattle.std.proofs.Common.{lit<};
-    ghost use Rattle.fixed_command.specs.Layout.{AnswersLaidOut};
-    ghost use Rattle.fixed_command.specs.LineBlocks.{IsLineBlock};
-    ghost use Rattle.fixed_command.specs.Lemmas.BlockLemmas.{line_block_one, long_by_its_prefix};
-    ghost use Rattle.fixed_command.specs.Lemmas.LaidLineLemmas.{laid_answer_kept, laid_answer_one};
-
-    const PER_BYTE: u64 = 26;
-
-    const EXTRA: u64 = 3307;
-
-    const MAX_ANSWER: usize = MAX_OBJECT;
-
-    ghost PER_BYTE = { 26 };
-
-    ghost EXTRA = { 3307 };
-
-    ghost MAX_ANSWER = { 8000 };
-
-    ghost Answers = { λ laid. AnswersLaidOut laid.layout (IsLineBlock laid.rule.rule.form laid.rule.rule.question) };
-
-    fn answer(&self, line: &[u8], out: &mut Output, steps: &mut Steps<L>) -> bool {
-        if line.len() > MAX_LINE {
-            return self.rule.answer(line, out, steps);
-        }
-        if self.layout.is_skipped(line) {
-            self.rule.watch.pass();
-            return false;
-        }
-        self.rule
-            .answer(self.layout.without_blanks(line), out, steps)
-    }
-
-    ghost room_law = { lit< tt };
-
-    ghost one_law = { λ laid. laid_answer_one laid.layout (IsLineBlock laid.rule.rule.form laid.rule.rule.question)
-        (line_block_one laid.rule.rule.form laid.rule.rule.question) };
-
-    ghost kept_law = { λ laid. laid_answer_kept laid.layout (IsLineBlock laid.rule.rule.form laid.rule.rule.question)
-        (long_by_its_prefix laid.rule.rule.form laid.rule.rule.question) };
 }
 
 /// A rule of whole inputs, with a watch over its refusals.
@@ -289,7 +127,7 @@ impl<L: Ledger> LineRule<L> for LaidOutBlocks {
 pub struct WatchedWhole<'w, R> {
     /// The rule.
     pub rule: &'w R,
-    /// What is known about the lines.
+    /// What is known about its refusal.
     pub watch: &'w Watch,
 }
 

@@ -5,6 +5,7 @@ use Rattle.std.proofs.Common.{sym, ap, subst, arith, inl, inr, length-take, take
 use Rattle.std.proofs.lemmas.Bool.{lt-ltb}
 use Rattle.fixed_amounts.proofs.Public.{amount_block_one, amount_object_one, decimal_name_one}
 use Rattle.fixed_bits.specs.Formats.{FormatParts}
+use Rattle.fixed_fields.proofs.Public.{fields_answer_one}
 use Rattle.fixed_names.proofs.Public.{name_one}
 use Rattle.fixed_respell.specs.LineWords.{longest_line}
 use Rattle.fixed_show.proofs.Public.{bits_block_one, format_block_one, part_block_one, show_block_one}
@@ -20,7 +21,7 @@ use Rattle.fixed_command.specs.Blocks.{IsObject, decimal_format_answer, head_lin
 use Rattle.fixed_command.specs.Convert.{without_return}
 use Rattle.fixed_command.specs.LineBlocks.{HasFormat, IsAnswerOf, IsLineBlock, LineBlockIsTheOne, long_answer}
 use Rattle.fixed_command.specs.declared.blocks.Question.{Question}
-use Rattle.fixed_command.specs.declared.blocks.Question.TheVariants.{Amount, Bits, Format, Part, Show}
+use Rattle.fixed_command.specs.declared.blocks.Question.TheVariants.{Amount, Bits, Fields, Format, Part, Show}
 
 abbrev reply_of : List ℕ → Bool → AnswerText
 reply_of t o = record { text = t; fault = o }
@@ -66,6 +67,9 @@ block_one (Bits r f) word a b valid x y =
 block_one (Part r part f) word a b valid x y =
     let same = part_block_one r part f word a.fault b.fault a.text b.text valid.is_width x y in
     alike a b same.0 same.1
+block_one (Fields question) word a b valid x y =
+    let same = fields_answer_one Lines question word a.fault b.fault a.text b.text x y in
+    alike a b same.0 same.1
 block_one (Amount question) word a b valid x y =
     let same = amount_block_one question word a.fault b.fault a.text b.text x y in
     alike a b same.0 same.1
@@ -82,6 +86,9 @@ object_one (Bits r f) word a b valid x y =
     alike a b same.0 same.1
 object_one (Part r part f) word a b valid x y =
     let same = part_object_one r part f word a.fault b.fault a.text b.text valid.is_width x y in
+    alike a b same.0 same.1
+object_one (Fields question) word a b valid x y =
+    let same = fields_answer_one Members question word a.fault b.fault a.text b.text x y in
     alike a b same.0 same.1
 object_one (Amount question) word a b valid x y =
     let same = amount_object_one question word a.fault b.fault a.text b.text x y in

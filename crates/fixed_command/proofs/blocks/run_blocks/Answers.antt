@@ -1,4 +1,4 @@
-use Rattle.std.proofs.Common.{◌≡◌, ◌<◌, ℕ, List, [], ◌∷◌, length, map, drop, Bor, refl, sym, ap, ◌∙◌, subst, arith, zero, suc, false, true, true≢false, ◌==◌}
+use Rattle.std.proofs.Common.{◌≡◌, ◌<◌, ℕ, List, [], ◌∷◌, length, map, drop, Bor, refl, sym, ap, ◌∙◌, subst, arith, zero, suc, false, true, true≢false, ◌==◌, ◌||◌}
 use Rattle.std.proofs.KnownBytes.{Appends-nil}
 use Rattle.std.proofs.lemmas.List.{take_rest}
 use Rattle.line_engine.specs.AnswerText.{AnswerText}
@@ -35,12 +35,12 @@ loop-rest-preserved g c =
     first_and_rest (λ w. w.now) rest d some ∙ ap (λ t. t ∷ map (λ w. w.now) (drop 1 rest)) (sym c.as_bytes.ensures.value) in
     let found = c.in-Ok.ensures.ok in
     let block : AnswerText = record { text = found.0; fault = c.in-Ok.is_fault } in
-    let more : HasWritten c.args.form c.args.question.now words (map (λ w. w.now) (drop 1 rest)) (g.K.Sink.written c.args.sink.now) (g.K.Sink.written c.write_answer.new.sink) true c.is_either-has_fault.result =
-    one_more c.args.form c.args.question.now words (map (λ w. w.now) (drop 1 rest)) c.as_bytes.result.now block (g.K.Sink.written c.args.sink.now) (g.K.Sink.written c.loop-rest.sink) (g.K.Sink.written c.write_answer.new.sink) c.loop-rest.has_begun c.loop-rest.has_fault c.is_either-has_fault.result
-    (subst (λ ws. HasWritten c.args.form c.args.question.now words ws (g.K.Sink.written c.args.sink.now) (g.K.Sink.written c.loop-rest.sink) c.loop-rest.has_begun c.loop-rest.has_fault) split inv.written) found.1 found.2 c.is_either-has_fault.ensures in
+    let more : HasWritten c.args.form c.args.question.now words (map (λ w. w.now) (drop 1 rest)) (g.K.Sink.written c.args.sink.now) (g.K.Sink.written c.write_answer.new.sink) true (c.loop-rest.has_fault || c.in-Ok.is_fault) =
+    one_more c.args.form c.args.question.now words (map (λ w. w.now) (drop 1 rest)) c.as_bytes.result.now block (g.K.Sink.written c.args.sink.now) (g.K.Sink.written c.loop-rest.sink) (g.K.Sink.written c.write_answer.new.sink) c.loop-rest.has_begun c.loop-rest.has_fault (c.loop-rest.has_fault || c.in-Ok.is_fault)
+    (subst (λ ws. HasWritten c.args.form c.args.question.now words ws (g.K.Sink.written c.args.sink.now) (g.K.Sink.written c.loop-rest.sink) c.loop-rest.has_begun c.loop-rest.has_fault) split inv.written) found.1 found.2 refl in
     record {
       same = c.in-Ok.ensures.failures.same ∙ inv.same;
-      written = subst (λ (ws : List (Bor (List ℕ))). HasWritten c.args.form c.args.question.now words (map (λ w. w.now) ws) (g.K.Sink.written c.args.sink.now) (g.K.Sink.written c.write_answer.new.sink) true c.is_either-has_fault.result) (sym (take_rest rest 1)) more;
+      written = subst (λ (ws : List (Bor (List ℕ))). HasWritten c.args.form c.args.question.now words (map (λ w. w.now) ws) (g.K.Sink.written c.args.sink.now) (g.K.Sink.written c.write_answer.new.sink) true (c.loop-rest.has_fault || c.in-Ok.is_fault)) (sym (take_rest rest 1)) more;
     }
 
 pub loop-rest-init : goal.loop-rest-init

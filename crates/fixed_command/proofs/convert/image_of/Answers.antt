@@ -1,4 +1,4 @@
-use Rattle.std.proofs.Common.{◌≡◌, FitsSigned, ℤ, rules, subst, sym}
+use Rattle.std.proofs.Common.{◌≡◌, ◌||◌, FitsSigned, ℤ, refl, rules, subst, sym}
 use Rattle.std.specs.Int.{w128}
 use Rattle.std.proofs.lemmas.Int.{to_z-of_z}
 use Rattle.fixed_bits.specs.Numbers.{with_sign}
@@ -15,4 +15,4 @@ returns-in-Some-clause-image c =
     let is : with_sign c.sign_and_magnitude-negative.result.0 c.sign_and_magnitude-negative.result.1 ≡ bits = rw (to_z-of_z w128 bits fits) at c.sign_and_magnitude-negative.ensures.value in
     let moved : IsReformatted s.target_mode s.policy s.target c.args.found.now.bits s.source.frac bits c.in-Some.target_overflowed = search (rules, c.in-Some.ensures.moved, c.frac_of-from.ensures.value) in
     let wide : IsWide bits = search (rules, c.in-Some.ensures.wide) in
-    subst (λ b. HasImage s c.args.found.now.bits c.args.found.now.overflowed b c.is_either.result) (sym is) (record { target_out = c.in-Some.target_overflowed; moved = moved; wide = wide; is_out_is = c.is_either.ensures })
+    subst (λ b. HasImage s c.args.found.now.bits c.args.found.now.overflowed b (c.args.found.now.overflowed || c.in-Some.target_overflowed)) (sym is) (record { target_out = c.in-Some.target_overflowed; moved = moved; wide = wide; is_out_is = refl })

@@ -65,3 +65,9 @@ returns-in-LaidOutLines-clause-reports g c = rw c.in-LaidOutLines.is c.run_laid_
 
 pub returns-in-LaidOutEnclose-clause-reports : goal.returns-in-LaidOutEnclose-clause-reports
 returns-in-LaidOutEnclose-clause-reports g c = rw c.in-LaidOutEnclose.is c.run_laid_enclosures.ensures.reports
+
+pub returns-in-Ask-clause-reports : goal.returns-in-Ask-clause-reports
+returns-in-Ask-clause-reports g c = rw c.in-Ask.is c.run_questions.ensures.reports
+
+pub returns-in-LaidOutAsk-clause-reports : goal.returns-in-LaidOutAsk-clause-reports
+returns-in-LaidOutAsk-clause-reports g c = rw c.in-LaidOutAsk.is c.run_laid_questions.ensures.reports
