@@ -17,7 +17,6 @@ ghost use Rattle.fixed_fit.specs.Inner.Serving.{lesser_of, unbounded};
 
 use crate::error_word::{push_half, push_size};
 use crate::lengths::{Lengths, frac_lengths, with_frac};
-use crate::progress::is_either;
 use crate::question::Question;
 use crate::reader::Reader;
 use fixed_bits::Format;
@@ -274,7 +273,8 @@ pub fn answer_of<L: Ledger>(reader: &Reader, question: &Question, steps: &mut St
     match known.fault {
         Some(fault) => Err(no_numeral(fault)),
         None => {
-            if is_either(question.kind.signed(), known.is_below) {
+            let has_sign = question.kind.signed() | known.is_below;
+            if has_sign {
                 lengths_answer(&known.signed, &reader.errors, question, steps)
             } else {
                 lengths_answer(&known.plain, &reader.errors, question, steps)

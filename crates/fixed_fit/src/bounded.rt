@@ -13,7 +13,6 @@ ghost use Rattle.fixed_fit.specs.Unfit.{said};
 ghost use Rattle.fixed_fit.specs.Within.{IsTried, most_width};
 
 use crate::answer::{Answer, Unfit, found_answer, no_numeral, push_lesser};
-use crate::progress::is_either;
 use crate::question::{Question, Widths};
 use crate::reader::Reader;
 use crate::serving::{Serving, best_of};
@@ -90,7 +89,8 @@ pub fn bounded_answer<L: Ledger>(
     match known.fault {
         Some(fault) => Err(no_numeral(fault)),
         None => {
-            if is_either(question.kind.signed(), known.is_below) {
+            let has_sign = question.kind.signed() | known.is_below;
+            if has_sign {
                 serving_answer(
                     &reader.within.signed,
                     &reader.errors,

@@ -37,13 +37,6 @@ pub struct Progress {
     pub room: u128,
 }
 
-/// Whether one of two holds.
-pub fn is_either(one: bool, other: bool) -> bool
-    ensures { result ≡ (one || other) }
-{
-    one || other
-}
-
 impl Progress {
     /// Returns the progress before the first line, with these lengths left.
     fn of_lengths(
@@ -139,7 +132,7 @@ impl Progress {
             fractions: self.fractions,
             lines,
             fault: None,
-            is_below: is_either(self.is_below, below),
+            is_below: self.is_below | below,
             plain,
             signed,
             room,
@@ -200,7 +193,7 @@ impl Progress {
         if let Some(found) = flat {
             if is_within_room(self.room, self.plain.count == 0, found) {
                 self.lines += 1;
-                self.is_below = is_either(self.is_below, is_short_below(found.decimal));
+                self.is_below |= is_short_below(found.decimal);
                 return;
             }
         }

@@ -8,14 +8,14 @@ use Rattle.fixed_fit.proofs.answer.answer_of.Goals as goal
 pub lengths_answer-requires : goal.lengths_answer-requires
 lengths_answer-requires g c = record { known = signed_known c.args.question.now c.requires.0 c.args.reader.now c.requires.1 c.in-None.is }
 
-pub lengths_answer-requires-else-is_either : goal.lengths_answer-requires-else-is_either
-lengths_answer-requires-else-is_either g c = record { known = plain_known c.args.question.now c.requires.0 c.args.reader.now c.requires.1 c.in-None.is }
+pub lengths_answer-requires-else-has_sign : goal.lengths_answer-requires-else-has_sign
+lengths_answer-requires-else-has_sign g c = record { known = plain_known c.args.question.now c.requires.0 c.args.reader.now c.requires.1 c.in-None.is }
 
 pub returns-in-Some : goal.returns-in-Some
 returns-in-Some g c = λ input h. inl (fault_is_answer c.args.question.now input c.args.reader.now.progress c.in-Some.fault (said (Err c.no_numeral.result)) h.progress h.radix c.in-Some.is (grind (arith, common_steps, c.no_numeral.ensures, c.in-Some.is)) refl)
 
-pub returns-then-is_either : goal.returns-then-is_either
-returns-then-is_either g c = λ input h. inr (signed_answer c.args.question.now (lines input) c.args.reader.now.progress (said c.lengths_answer.result) h.progress h.radix h.fractions c.in-None.is (grind (arith, common_steps, c.signed.ensures, c.is_either.ensures, c.if-is_either.true)) (c.lengths_answer.ensures _ (lines input) (h.errors c.in-None.is)))
+pub returns-then-has_sign : goal.returns-then-has_sign
+returns-then-has_sign g c = λ input h. inr (signed_answer c.args.question.now (lines input) c.args.reader.now.progress (said c.lengths_answer.result) h.progress h.radix h.fractions c.in-None.is (grind (arith, common_steps, c.signed.ensures, c.if-has_sign.true)) (c.lengths_answer.ensures _ (lines input) (h.errors c.in-None.is)))
 
-pub returns-else-is_either : goal.returns-else-is_either
-returns-else-is_either g c = λ input h. inr (plain_answer c.args.question.now (lines input) c.args.reader.now.progress (said c.lengths_answer-else-is_either.result) h.progress h.radix h.fractions c.in-None.is (grind (arith, common_steps, c.signed.ensures, c.is_either.ensures, c.if-is_either.false)) (c.lengths_answer-else-is_either.ensures _ (lines input) (h.errors c.in-None.is)))
+pub returns-else-has_sign : goal.returns-else-has_sign
+returns-else-has_sign g c = λ input h. inr (plain_answer c.args.question.now (lines input) c.args.reader.now.progress (said c.lengths_answer-else-has_sign.result) h.progress h.radix h.fractions c.in-None.is (grind (arith, common_steps, c.signed.ensures, c.if-has_sign.false)) (c.lengths_answer-else-has_sign.ensures _ (lines input) (h.errors c.in-None.is)))

@@ -19,8 +19,8 @@ serving_answer-requires g c =
       known = λ at. signed_served q c.args.widths r.0 r.1 reader r.2 c.in-None.is at;
     }
 
-pub serving_answer-requires-else-is_either : goal.serving_answer-requires-else-is_either
-serving_answer-requires-else-is_either g c =
+pub serving_answer-requires-else-has_sign : goal.serving_answer-requires-else-has_sign
+serving_answer-requires-else-has_sign g c =
     let r = c.requires in
     let q = c.args.question.now in
     let reader = c.args.reader.now in
@@ -35,12 +35,12 @@ returns-in-Some g c = λ bound input h.
     let q = c.args.question.now in
     inl (fault_is_answer (at_width q (most_width c.args.widths q.kind.width)) input c.args.reader.now.progress c.in-Some.fault (said (Err c.no_numeral.result)) h.progress h.radix c.in-Some.is (grind (arith, common_steps, c.no_numeral.ensures, c.in-Some.is)) refl)
 
-pub returns-then-is_either : goal.returns-then-is_either
-returns-then-is_either g c = λ bound input h.
+pub returns-then-has_sign : goal.returns-then-has_sign
+returns-then-has_sign g c = λ bound input h.
     let its = c.serving_answer.ensures in
-    inr (signed_bounded c.args.question.now c.args.widths bound (lines input) c.args.reader.now (said c.serving_answer.result) h c.in-None.is (grind (arith, common_steps, c.signed.ensures, c.is_either.ensures, c.if-is_either.true)) its.none_text its.none_fault (λ at. its.some at _ (lines input) (h.errors c.in-None.is)))
+    inr (signed_bounded c.args.question.now c.args.widths bound (lines input) c.args.reader.now (said c.serving_answer.result) h c.in-None.is (grind (arith, common_steps, c.signed.ensures, c.if-has_sign.true)) its.none_text its.none_fault (λ at. its.some at _ (lines input) (h.errors c.in-None.is)))
 
-pub returns-else-is_either : goal.returns-else-is_either
-returns-else-is_either g c = λ bound input h.
-    let its = c.serving_answer-else-is_either.ensures in
-    inr (plain_bounded c.args.question.now c.args.widths bound (lines input) c.args.reader.now (said c.serving_answer-else-is_either.result) h c.in-None.is (grind (arith, common_steps, c.signed.ensures, c.is_either.ensures, c.if-is_either.false)) its.none_text its.none_fault (λ at. its.some at _ (lines input) (h.errors c.in-None.is)))
+pub returns-else-has_sign : goal.returns-else-has_sign
+returns-else-has_sign g c = λ bound input h.
+    let its = c.serving_answer-else-has_sign.ensures in
+    inr (plain_bounded c.args.question.now c.args.widths bound (lines input) c.args.reader.now (said c.serving_answer-else-has_sign.result) h c.in-None.is (grind (arith, common_steps, c.signed.ensures, c.if-has_sign.false)) its.none_text its.none_fault (λ at. its.some at _ (lines input) (h.errors c.in-None.is)))

@@ -36,4 +36,4 @@ returns-then-is_within_room-clause-one_more g c = λ n lines h.
     let signed = left_as_they_were p.radix line place p.signed found.decimal read.read exponent on_signed in
     let below = read_below p.radix line found.decimal c.is_short_below.result read.read c.is_short_below.ensures in
     let all : P (p.is_below || c.is_short_below.result) None = after_numeral n lines line p place c.is_short_below.result p.plain p.signed p.room h.plain_room h.signed_room none refl (read_numeral p.radix line found.decimal read.read) below plain signed h in
-    subst (λ (b : Bool). P b p.fault) (sym c.is_either-self.ensures) (subst (λ (f : Option LeastFault). P (p.is_below || c.is_short_below.result) f) (sym none) all)
+    subst (λ (f : Option LeastFault). P (p.is_below || c.is_short_below.result) f) (sym none) all

@@ -1,4 +1,4 @@
-use Rattle.std.proofs.Common.{◌≡◌, ◌++◌, [], arith, refl, subst}
+use Rattle.std.proofs.Common.{◌≡◌, ◌++◌, ℕ, List, [], ◌∷◌, length, arith, refl, subst}
 use Rattle.std.proofs.lemmas.Grind.{common_steps}
 use Rattle.std.specs.Prelude.{Err}
 use Rattle.run_engine.proofs.Public.{goes_breaks, goes_none}
@@ -6,8 +6,18 @@ use Rattle.run_engine.specs.LineRun.{one_more}
 use Rattle.run_engine.specs.Seen.{moment}
 use Rattle.fixed_pack.specs.Inner.Packing.{EndsLine}
 use Rattle.fixed_pack.specs.Packed.{Appends, MakesPacked}
-use Rattle.fixed_pack.proofs.PackLemmas.{last_goes, last_halts}
+use Rattle.fixed_pack.proofs.PackLemmas.{last_goes, last_halts, last_none}
 use Rattle.fixed_pack.proofs.packer.PackerPieces.finish.Goals as goal
+
+nil_of : (xs : List ℕ) → length xs ≡ 0 → xs ≡ []
+nil_of [] e = refl
+nil_of (x ∷ xs) e = absurd (omega (arith, e))
+
+pub returns-then-is_empty : goal.returns-then-is_empty
+returns-then-is_empty g c = λ first bytes made spent makes.
+    let none : length c.args.self.now.line.items ≡ 0 = grind (arith, common_steps, c.is_empty.ensures, c.if-is_empty.true) in
+    last_none (g.R.Pack.Packs first.rule) (g.R.Pack.Refuses first.rule) first.rule c.args.self.now bytes made spent makes
+    (moment (g.I.Streams.seen c.args.out.now.io) c.args.out.now.text c.args.steps.now) (nil_of c.args.self.now.line.items none)
 
 pub returns-in-Err : goal.returns-in-Err
 returns-in-Err g c = λ first bytes made spent makes.
