@@ -3,10 +3,15 @@
 
     agree.py [--built FOLDER]
 """
+import json
 import math
 import os
 import random
+import re
+import struct
+import subprocess
 import sys
+import tempfile
 from decimal import Decimal
 from fractions import Fraction
 
@@ -152,6 +157,71 @@ def objects(tally, path):
             tally.check(is_right, f"{words} --json: status {ran.returncode}, {ran.stdout!r:.400}, not {wanted!r:.400}")
 
 
+TALLY = re.compile(
+    r"(?:numeral|word|float)s: (\d+), exact: (\d+), rounded: (\d+), overflowed: (\d+)(?: \(the first in (\w+) (\d+)\))?"
+    r", refused: (\d+)(?: \(the first in (\w+) (\d+)\))?(?:; the first overflowed in line (\d+), column ('.*?'|\d+))?"
+    r"(?:; the first refused in line (\d+), column ('.*?'|\d+))?$")
+GREATEST = re.compile(r"greatest error in (\w+) (\d+): (.*), in ulps: (.*)$")
+
+
+def first_of(name, number, line, column):
+    """Where the first numeral of an outcome is, from the text of a report."""
+    if name is None:
+        return None
+    place = {name: int(number), **({"line": int(line)} if line else {})}
+    return place | ({"name": column[1:-1]} if (column or "").startswith("'") else {"column": int(column)} if column else {})
+
+
+def report_facts(file, lines):
+    """The object that says what these lines of a report say."""
+    found = next(filter(None, map(TALLY.search, lines)))
+    count, exact, rounded, overflowed, *first, refused = found.groups()[:7]
+    last = found.groups()[7:]
+    greatest = next(filter(None, map(GREATEST.search, lines)), None)
+    return {
+        "file": file, "count": int(count), "exact": int(exact), "rounded": int(rounded), "overflowed": int(overflowed), "refused": int(refused),
+        "first_overflowed": first_of(*first, *last[2:4]), "first_refused": first_of(*last[:2], *last[4:6]),
+        "greatest_error": {greatest[1]: int(greatest[2]), "error": greatest[3], "ulps": greatest[4]} if greatest else None,
+    }
+
+
+def without_number(said):
+    """An object without the numbers of columns that it also names, which the text of a report does not have."""
+    return {key: {name: it for name, it in value.items() if name != "column" or "name" not in value} if isinstance(value, dict) else value
+            for key, value in said.items()}
+
+
+def reports(tally, path):
+    """`--report=json` says of each input what `--report` says in text, and all else is the same."""
+    lines = b"0.1\n300\n1\nx\n-1e-30\n" + b"0." + b"3" * 2000 + b"\n"
+    table = b'h,"a ""b\xc3\xa9"\n0.1,300\nx,1\n"1\n",-300\n'
+    floats = struct.pack("<4d", 0.1, 300.0, -1.0, 1e-30)
+    cases = (
+        (["convert", "I8F8"], lines), (["convert", "I8F8", "I4F4", "-p", "saturating", "--trim"], lines), (["convert", "U8F0"], b""),
+        (["convert", "I8F8", "--from", "bits"], b"1\n70000\n"), (["convert", "I8F8", "--words", "--keep", "all"], lines + b"1,2 0.3,x"),
+        (["column", "1,2", "I8F8", "--policy", "wrapping"], table), (["column", "--all", "I8F8", "-H", "-p", "saturating", "--keep"], table),
+        (["column", "1", "I8F8"], b'1\n"2'), (["pack", "--from", "f64", "I8F8", "-p", "saturating"], floats),
+        (["pack", "--from", "f64", "I8F8"], floats), (["repack", "I8F8", "I4F4", "-p", "wrapping"], floats),
+        (["repack", "I8F8", "I4F4"], b"\0\1\0\x20\3"),
+    )
+    names = ("-", "plain", 'a "b" \\ c', "\u00e9\u4e2d", "tab\tline\n\x7f\u0085")
+    with tempfile.TemporaryDirectory() as folder:
+        for words, given in cases:
+            for name in names:
+                if name != "-":
+                    with open(os.path.join(folder, name), "wb") as file:
+                        file.write(given)
+                of_text, of_object = (subprocess.run([path, *words, option, "--", name], input=given, capture_output=True, cwd=folder, check=False)
+                                      for option in ("--report", "--report=json"))
+                told = of_text.stderr.decode().splitlines()
+                said = [it for it in of_object.stderr.decode().splitlines() if it.startswith("{")]
+                rest = [it for it in of_object.stderr.decode().splitlines() if not it.startswith("{")]
+                wanted = report_facts(name, told)
+                tally.same([without_number(json.loads(it)) for it in said], [wanted], f"{words} --report=json {name!r}")
+                kept = [it for it in told if not TALLY.search(it) and not GREATEST.search(it)]
+                tally.same((of_object.stdout, of_object.returncode, rest), (of_text.stdout, of_text.returncode, kept), f"{words}: beside the report")
+
+
 def stored(tally, tool):
     """Each line of the stored run of fixed_tool alone: the status says a fault exactly where its answer does."""
     with open(f"{TOP}/crates/fixed_tool/stdin", "rb") as lines, open(f"{TOP}/crates/fixed_tool/stdout", "rb") as kept:
@@ -167,7 +237,7 @@ def main():
     if path and tool:
         with_tool(tally, path, tool)
     if path:
-        for check in (parts, of_signals, repacked, objects):
+        for check in (parts, of_signals, repacked, objects, reports):
             check(tally, path)
         with open(f"{TOP}/packaging/VERSION", "rb") as file:
             tally.same(run(path, ["--version"]).stdout, b"fixed " + file.read().strip() + b"\n", "fixed --version")

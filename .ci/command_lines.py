@@ -77,7 +77,7 @@ def value_in(words, at, row):
     """The value of an option if the word at this index is the option, "" if none follows; None if it is another word."""
     word, names = words[at], [f"--{row.name}"] + [f"-{row.letter}"] * bool(row.letter)
     if word in names:
-        return words[at + 1] if row.value and at + 1 < len(words) else ""
+        return words[at + 1] if row.value and not row.value.startswith("[=") and at + 1 < len(words) else ""
     if word.startswith(f"--{row.name}="):
         return word.partition("=")[2]
     return word[2:].removeprefix("=") if row.letter and row.value and re.match(rf"-{row.letter}.", word) else None
@@ -208,6 +208,9 @@ def tests():
         found = {it.removeprefix("no session tries fixed do ") for it in untried({"made": text}, TABLE)}
         if found != set(filter(None, missing.split(", "))):
             yield f"{text!r}: {sorted(found)}, not {missing}"
+    row = Row("form", None, "[=FORM]", ("long",), "")
+    if (value_in(["--form", "long"], 0, row), value_in(["--form=long"], 0, row)) != ("", "long"):
+        yield "the word after an option whose value is given only after = is taken for the value"
     right = subprocess.CompletedProcess([], 2, b"", b"fixed: 'x' is wrong; try 'fixed do --help'\n")
     if not is_refused(right, ["do", "x"], "'x'"):
         yield "a refusal is not seen"

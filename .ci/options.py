@@ -80,6 +80,10 @@ class Row:
     choices: tuple[str, ...]
     help: str
 
+    def named(self):
+        """The name of its value, which may be left out in brackets, and of which there may be several before points."""
+        return self.value.removesuffix("...").strip("[]=")
+
     def typed(self):
         """What may be typed for its value: words; "" if it takes none."""
         if not self.value:
@@ -213,6 +217,8 @@ def bash_values(table):
     """Each option, of every command if it is the same in all that have it, with what may be typed after it."""
     rows = shared(table)
     for row, commands in rows.items():
+        if row.value.startswith("[="):
+            continue
         is_one = all(it.typed() == row.typed() for it in rows if it.name == row.name)
         for command in ["*"] if is_one else commands:
             yield f"{command}:--{row.name}", row.typed()
@@ -276,9 +282,11 @@ def zsh_row(row):
     told = row.help.replace("[", "\\[").replace("]", "\\]")
     action = zsh_action(row.typed())
     colons = "::" if row.value.startswith("[") else ":"
-    value = f"{colons}{re.sub('[][:]', ' ', row.value).strip()}:{action}" if row.value else ""
+    value = f"{colons}{row.named().replace(':', ' ')}:{action}" if row.value else ""
     if not row.letter:
-        return quoted(f"--{row.name}[{told}]{value}")
+        many = "*" if row.value.endswith("...") else ""
+        equals = "=-" if row.value.startswith("[=") else ""
+        return quoted(f"{many}--{row.name}{equals}[{told}]{value}")
     return f"{{-{row.letter},--{row.name}}}" + quoted(f"[{told}]{value}")
 
 
@@ -374,9 +382,10 @@ def options(table):
     yield ".Bl -tag -width indent"
     for row, commands in shared(table).items():
         letter = f"Fl {row.letter} , " if row.letter else ""
-        value = row.value.strip("[]")
+        value = row.named() + (" ..." if row.value.endswith("...") else "")
         few = f"Cm {' | '.join(row.choices)}" if 0 < len(row.choices) < 7 else f"Ar {value}" if value else ""
-        yield f".It {letter}Fl -{row.name} {'Op ' if row.value.startswith('[') else ''}{few}".rstrip()
+        optional = "Ns Op = Ns " if row.value.startswith("[=") else "Op " if row.value.startswith("[") else ""
+        yield f".It {letter}Fl -{row.name} {optional}{few}".rstrip()
         yield from prose(f"{row.help}.")
         yield from in_parentheses(commands)
     yield ".El"

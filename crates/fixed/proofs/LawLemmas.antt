@@ -1,9 +1,10 @@
 -- The operands and options of a command line determine at most one request.
-use Rattle.std.proofs.Common.{◌≡◌, ℕ, ◌+◌, ◌-◌, ◌≤◌, ◌==◌, Bool, true, false, Option, Some, None, List, [], ◌∷◌, length, get_or, refl, sym, ap, ◌∙◌, subst, arith, inl, inr, if◌then◌else◌, true≢false}
+use Rattle.std.proofs.Common.{◌≡◌, ℕ, ◌+◌, ◌-◌, ◌≤◌, ◌==◌, Bool, true, false, Option, Some, None, List, [], ◌∷◌, ◌++◌, append_assoc, length, get_or, refl, sym, ap, ◌∙◌, subst, arith, inl, inr, if◌then◌else◌, true≢false}
 use Rattle.std.specs.Prelude.{codes, is_some, not, unwrap_or, ◌&&◌, ◌||◌}
 use Rattle.std.specs.Fmt.{decimal}
 use Rattle.std.specs.List.{after_first, list_any, slice_split}
 use Rattle.std.proofs.lemmas.Fmt.{decimal_injective}
+use Rattle.std.proofs.lemmas.List.{append_cancel_right}
 use Rattle.column_engine.specs.declared.columns.Column.{Column}
 use Rattle.column_engine.specs.declared.columns.Column.TheVariants.{At, Named}
 use Rattle.column_engine.specs.declared.columns.Range.{Range}
@@ -13,7 +14,7 @@ use Rattle.fixed_arrays.specs.declared.form.ArrayForm.{ArrayForm}
 use Rattle.fixed_arrays.specs.declared.form.ArrayForm.TheVariants.{C, Coe, GuardedC, Mif, Readmemh, Rust, Vhdl}
 use Rattle.fixed_arrays.specs.declared.rule.Numerals.{Numerals}
 use Rattle.fixed_bits.specs.Formats.{FormatParts}
-use Rattle.fixed_command.specs.Asked.{IsNamed, field_text}
+use Rattle.fixed_command.specs.Asked.{IsNamed}
 use Rattle.fixed_command.specs.Layout.{LineLayout}
 use Rattle.fixed_command.specs.declared.field.Empty.{Empty}
 use Rattle.fixed_command.specs.declared.field.Empty.TheVariants.{Kept, Refused, Zero}
@@ -22,12 +23,16 @@ use Rattle.fixed_command.specs.declared.print.Print.TheVariants.{Places}
 use Rattle.fixed_command.proofs.Public.{names_one}
 use Rattle.fixed_constants.specs.Program.{NamesLanguage}
 use Rattle.fixed_constants.specs.declared.form.Form.{Form}
+use Rattle.fixed_fields.specs.Fields.{IsFieldName}
+use Rattle.fixed_fields.specs.Names.{field_text}
+use Rattle.fixed_fields.specs.declared.list.Field.{Field}
 use Rattle.fixed_fit.specs.declared.question.Fractions.{Fractions}
 use Rattle.fixed_fit.specs.declared.question.Fractions.TheVariants.{Beyond, Whole}
 use Rattle.fixed_numeral.specs.declared.radix.Radix.{Radix}
 use Rattle.fixed_pack.specs.declared.endian.Endian.{Endian}
 use Rattle.fixed_pack.specs.declared.endian.Endian.TheVariants.{Big, Little}
 use Rattle.fixed_names.proofs.Public.{name_one}
+use Rattle.fixed_names.specs.Names.{IsName}
 use Rattle.fixed_show.specs.declared.parts.Part.{Part}
 use Rattle.fixed_command.specs.declared.field.FieldForm.{FieldForm}
 use Rattle.fixed_words.specs.declared.rule.Leaving.{Leaving}
@@ -38,6 +43,7 @@ use Rattle.fixed.specs.Fit.{IsErrorAsked, IsErrorBy, IsFractionsAsked}
 use Rattle.fixed.specs.Laws.{AreSameColumns, ColumnsAreTheOnes, ConstantsAreTheOnes, IsOne, IsSameColumn, LinesAreTheOnes, SettingsAreTheOnes}
 use Rattle.fixed.specs.Lines.{IsCommentAsked, IsFieldAsked, IsFormatAsked, IsKindAsked, IsKindWord, IsLayoutAsked, IsPartBy, IsTargetAsked, IsTargetBy, is_like_format}
 use Rattle.fixed_bits.specs.declared.mode.ReadMode.TheVariants.{NearestEven}
+use Rattle.fixed.specs.Questions.{AreNames}
 use Rattle.fixed.specs.Settings.{IsCountWord, IsExcerptAsked, IsLimitAsked, IsPrintAsked, endian_text}
 use Rattle.fixed.specs.declared.commands.unpack_words.Excerpt.{Excerpt}
 use Rattle.fixed.specs.Words.{IsLeavingAsked, IsLeavingWord}
@@ -260,6 +266,44 @@ part_by_one format field swap (Some a) (Some b) x y =
     ap Some (ap (λ (z : Option ℕ). record { low = z; is_reversed = a.is_reversed }) low
     ∙ ap (λ (z : Bool). record { low = b.low; is_reversed = z }) (x.2 ∙ sym y.2))
 
+abbrev after_colon : List ℕ → List ℕ
+after_colon = after_first (λ b. b == 58)
+
+-- the name of the format is behind the second colon
+format_name_at : (word : List ℕ) (field : Field) (x : IsFieldName word field) → after_colon (after_colon word) ≡ x.name
+format_name_at word field x =
+    let high : List ℕ = decimal (field.low + field.format.width - 1) in
+    let low : List ℕ = decimal field.low in
+    let split : word ≡ high ++ 58 ∷ (low ++ 58 ∷ x.name) = x.word_is ∙ (ap (λ (l : List ℕ). l ++ 58 ∷ x.name) x.is_field.bits_are ∙ append_assoc high (58 ∷ low) (58 ∷ x.name)) in
+    let small : field.low + field.format.width ≤ 64 = x.is_field.within in
+    let one : after_colon word ≡ low ++ 58 ∷ x.name =
+    ap after_colon split ∙ after_mark 58 colon high (low ++ 58 ∷ x.name) (digits_of_decimal (field.low + field.format.width - 1) (omega arith)) in
+    ap after_colon one ∙ after_mark 58 colon low x.name (digits_of_decimal field.low (omega arith))
+
+same_field : (a b : Field) → a.low ≡ b.low → a.format ≡ b.format → a ≡ b
+same_field a b low format =
+    ap (λ (z : ℕ). record { low = z; format = a.format }) low ∙ ap (λ (z : FormatParts). record { low = b.low; format = z }) format
+
+field_name_one : (word : List ℕ) → IsOne Field (IsFieldName word)
+field_name_one word a b x y =
+    let name : x.name ≡ y.name = sym (format_name_at word a x) ∙ format_name_at word b y in
+    let format : a.format ≡ b.format = name_one x.name a.format b.format x.is_field.is_name (subst (λ (n : List ℕ). IsName n b.format) (sym name) y.is_field.is_name) in
+    let bits : x.bits ≡ y.bits = append_cancel_right x.bits y.bits (58 ∷ y.name) (ap (λ (n : List ℕ). x.bits ++ 58 ∷ n) (sym name) ∙ (sym x.word_is ∙ y.word_is)) in
+    let within : a.low + b.format.width ≤ 64 = subst (λ (f : FormatParts). a.low + f.width ≤ 64) format x.is_field.within in
+    let texts : field_text b.format.width a.low ≡ field_text b.format.width b.low =
+    subst (λ (f : FormatParts). field_text f.width a.low ≡ field_text b.format.width b.low) format (sym x.is_field.bits_are ∙ (bits ∙ y.is_field.bits_are)) in
+    let low : a.low ≡ b.low = field_one b.format.width a.low b.low within y.is_field.within texts in
+    same_field a b low format
+
+fields_one : (words : List (List ℕ)) → IsOne (List Field) (AreNames words)
+fields_one [] [] [] x y = refl
+fields_one [] [] (b ∷ bs) x y = absurd y
+fields_one [] (a ∷ us) bs x y = absurd x
+fields_one (word ∷ words) [] bs x y = absurd x
+fields_one (word ∷ words) (a ∷ us) [] x y = absurd y
+fields_one (word ∷ words) (a ∷ us) (b ∷ bs) x y =
+    ap (λ (z : Field). z ∷ us) (field_name_one word a b x.0 y.0) ∙ ap (λ (l : List Field). b ∷ l) (fields_one words us bs x.1 y.1)
+
 comment_one : (word : Option (List ℕ)) → IsOne (List ℕ) (IsCommentAsked word)
 comment_one None a b x y = x ∙ sym y
 comment_one (Some word) a b x y = x.0 ∙ sym y.0
@@ -303,6 +347,7 @@ lines_one = record {
   format = format_one;
   target = target_one;
   part = λ format given. part_by_one format (value_of given (codes "field")) (has_flag given (codes "swap"));
+  fields = fields_one;
   layout = layout_one;
   words = λ given a b x y. record {
     separators = x.separators.text ∙ sym y.separators.text;

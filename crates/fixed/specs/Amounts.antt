@@ -25,6 +25,7 @@ use Rattle.fixed_pack.specs.declared.bits.PackBits.{PackBits}
 use Rattle.fixed_pack.specs.declared.endian.Endian.{Endian}
 use Rattle.fixed_pack.specs.declared.endian.Endian.TheVariants.{Little}
 use Rattle.fixed_respell.specs.Words.{mode_text, policy_text}
+use Rattle.fixed.specs.Lines.{is_like_format}
 use Rattle.fixed.specs.Pack.{AreBitsAsked}
 use Rattle.fixed.specs.Settings.{endian_text, pack_input_text}
 use Rattle.fixed.specs.declared.settings.PackInput.{PackInput}
@@ -57,7 +58,7 @@ pub record HasNoBinaryOption (given : Given) : Type 0 where
   pub places : value_of given (codes "places") ≡ None
   pub places_mode : value_of given (codes "places-mode") ≡ None
   pub words : has_flag given (codes "words") ≡ false
-  pub report : has_flag given (codes "report") ≡ false
+  pub report : value_of given (codes "report") ≡ None
 
 -- the options name these settings
 pub record IsAmountAsked (given : Given) (format : ℕ) (s : AmountSettings) : Type 0 where
@@ -96,12 +97,21 @@ IsDecimalAsked (Some word) format = IsDecimalName word format
 abbrev pub NamesNoDecimal : Option (List ℕ) → Type 0
 NamesNoDecimal word = (format : ℕ) → ¬ IsDecimalAsked word format
 
+-- the word is no target: it has not the shape of a format, and names no decimal format
+abbrev pub IsUnlikeFormat : Option (List ℕ) → Type 0
+IsUnlikeFormat None = Unit {0}
+IsUnlikeFormat (Some word) = is_like_format word ≡ false
+
+pub record IsNoTarget (word : Option (List ℕ)) : Type 0 where
+  pub binary : IsUnlikeFormat word
+  pub decimal : NamesNoDecimal word
+
 -- ---- packing
 -- lines are packed so
 pub record IsAmountPackAsked (given : Given) (format : ℕ) (p : PackAmounts) : Type 0 where
   pub input : IsNamed PackInput pack_input_text Numerals (value_of given (codes "from")) Numerals
   pub radix : IsRadixTen (value_of given (codes "radix"))
-  pub report : has_flag given (codes "report") ≡ false
+  pub report : value_of given (codes "report") ≡ None
   pub format_is : p.format ≡ format
   pub policy : IsNamed Policy policy_text Checked (value_of given (codes "policy")) p.policy
   pub mode : IsNamed ReadMode mode_text NearestEven (value_of given (codes "mode")) p.mode

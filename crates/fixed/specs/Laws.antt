@@ -12,6 +12,7 @@ use Rattle.fixed_command.specs.Layout.{LineLayout}
 use Rattle.fixed_command.specs.declared.field.FieldForm.{FieldForm}
 use Rattle.fixed_command.specs.declared.print.Print.{Print}
 use Rattle.fixed_constants.specs.declared.form.Form.{Form}
+use Rattle.fixed_fields.specs.declared.list.Field.{Field}
 use Rattle.fixed_fit.specs.declared.question.Fractions.{Fractions}
 use Rattle.fixed_numeral.specs.declared.radix.Radix.{Radix}
 use Rattle.fixed_pack.specs.declared.endian.Endian.{Endian}
@@ -22,6 +23,7 @@ use Rattle.fixed.specs.Constants.{IsArrayAsked, IsFormAsked as IsConstantsAsked,
 use Rattle.fixed.specs.Constants.{IsNumeralsAsked}
 use Rattle.fixed.specs.Fit.{IsErrorAsked, IsFractionsAsked}
 use Rattle.fixed.specs.Lines.{IsFormatAsked, IsKindAsked, IsLayoutAsked, IsPartAsked, IsTargetAsked}
+use Rattle.fixed.specs.Questions.{AreNames}
 use Rattle.fixed.specs.Settings.{IsCountWord, IsExcerptAsked, IsLimitAsked, IsPrintAsked, endian_text}
 use Rattle.fixed.specs.Words.{IsWordRuleAsked}
 use Rattle.fixed.specs.declared.commands.unpack_words.Excerpt.{Excerpt}
@@ -82,12 +84,13 @@ pub record ConstantsAreTheOnes : Type 0 where
       → IsOne (List ℕ) (IsNameAsked form guard word)
   pub numerals : (given : Given) (word : List ℕ) → IsOne Numerals (IsNumeralsAsked given word)
 
--- the laws for formats, targets, parts of words, layouts of lines, words of texts, and widths
+-- the laws for formats, targets, parts and fields of words, layouts of lines, words of texts, and widths
 pub record LinesAreTheOnes : Type 0 where
   pub format : (word : Option (List ℕ)) → IsOne FormatParts (IsFormatAsked word)
   pub target : (word : Option (List ℕ)) (source : FormatParts) (place : ℕ) (a b : FormatParts) (m n : ℕ)
       → IsTargetAsked word source place a m → IsTargetAsked word source place b n → (a ≡ b) × (m ≡ n)
   pub part : (format : FormatParts) (given : Given) → IsOne (Option Part) (IsPartAsked format given)
+  pub fields : (words : List (List ℕ)) → IsOne (List Field) (AreNames words)
   pub layout : (given : Given) → IsOne LineLayout (IsLayoutAsked given)
   pub words : (given : Given) (a b : WordRule) → IsWordRuleAsked given a → IsWordRuleAsked given b → IsSameWordRule a b
   pub kind : (signed bounded : Bool) (word : Option (List ℕ)) → IsOne FormatParts (IsKindAsked signed bounded word)

@@ -2,6 +2,7 @@
 pub mod Settings
 pub mod Columns
 pub mod Lines
+pub mod Tasks
 pub mod Amounts
 pub mod Pack
 pub mod Questions
@@ -12,6 +13,9 @@ pub mod Convert
 pub mod Errors
 pub mod Json
 pub mod Unpack
+pub mod Reports
 pub mod Ends
+pub mod Inputs
+pub mod Products
 pub mod Laws
 pub mod Inner

@@ -8,8 +8,8 @@ use Rattle.std.specs.Str.{bytes_eq}
 use Rattle.command_line.specs.Words.{has_flag, keyword_at, value_of}
 use Rattle.command_line.specs.declared.given.Given.{Given}
 use Rattle.fixed_bits.specs.Formats.{FormatParts, IsFormat}
-use Rattle.fixed_command.specs.Asked.{field_text}
 use Rattle.fixed_command.specs.Layout.{LineLayout}
+use Rattle.fixed_fields.specs.Names.{field_text}
 use Rattle.fixed_names.specs.Names.{IsName}
 use Rattle.fixed_names.specs.Shapes.{is_like_tool_name}
 use Rattle.fixed_numeral.specs.declared.radix.Radix.{Radix}

@@ -1,6 +1,6 @@
 -- What the words of a command ask for that packs words of bits.
-use Rattle.std.specs.Prelude.{◌≡◌, false, None, codes}
-use Rattle.command_line.specs.Words.{has_flag, value_of}
+use Rattle.std.specs.Prelude.{◌≡◌, None, codes}
+use Rattle.command_line.specs.Words.{value_of}
 use Rattle.command_line.specs.declared.given.Given.{Given}
 use Rattle.fixed_bits.specs.Formats.{FormatParts}
 use Rattle.fixed_command.specs.Asked.{IsNamed}
@@ -16,7 +16,7 @@ use Rattle.fixed.specs.Settings.{endian_text}
 pub record AreBitsAsked (given : Given) (format : FormatParts) (p : PackBits) : Type 0 where
   pub policy : value_of given (codes "policy") ≡ None
   pub mode : value_of given (codes "mode") ≡ None
-  pub report : has_flag given (codes "report") ≡ false
+  pub report : value_of given (codes "report") ≡ None
   pub radix : IsNamed Radix radix_text Dec (value_of given (codes "radix")) p.radix
   pub format_is : p.format ≡ format
   pub endian : IsNamed Endian endian_text Little (value_of given (codes "endian")) p.endian

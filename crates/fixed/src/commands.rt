@@ -13,6 +13,7 @@ pub mod convert;
 pub mod convert_errors;
 pub mod convert_words;
 pub mod enclose;
+pub mod fields;
 pub mod fit;
 pub mod floats;
 pub mod format;

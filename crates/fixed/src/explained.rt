@@ -53,6 +53,18 @@ pub fn list_rule(radix: Radix) -> ConvertRule {
     )
 }
 
+/// The rule by which register words of 64 bits are read.
+fn word_rule(radix: Radix) -> ConvertRule {
+    let format = Format::of(false, 64, 0);
+    ConvertRule::reading(
+        Spelling::Word,
+        radix,
+        format,
+        Policy::Checked,
+        ReadMode::NearestEven,
+    )
+}
+
 /// The rule of a line `RADIX SOURCE TARGET POLICY NUMERAL`, and its numeral.
 pub fn line_rule(line: &[u8]) -> Option<(ConvertRule, &[u8])> {
     let (radix, rest) = split_once(line, b' ')?;
@@ -142,6 +154,10 @@ pub fn push_question_explanation<L: Ledger>(
         Question::Bits { radix, format } | Question::Part { radix, format, .. } => {
             let mode = ReadMode::NearestEven;
             let rule = ConvertRule::reading(Spelling::Word, *radix, *format, Policy::Checked, mode);
+            push_explanation(report, &rule, offers, word, cause, steps);
+        }
+        Question::Fields(asked) => {
+            let rule = word_rule(asked.radix);
             push_explanation(report, &rule, offers, word, cause, steps);
         }
         Question::Amount(asked) => {

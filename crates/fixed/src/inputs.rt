@@ -1,7 +1,9 @@
 //! Runs a job over each input, one after another.
 
 ghost use Rattle.std.specs.Prelude.{◌≡◌, ◌≤◌, length};
+ghost use Rattle.command_line.specs.Device.{written_to};
 ghost use Rattle.fixed.specs.Ends.{is_last};
+ghost use Rattle.fixed.specs.Inputs.{TaskRunsBetween, WordsRunBetween};
 
 use crate::commands::column_report::{self, Known};
 use crate::commands::{amounts, convert, fit, floats, json, pack, repack, unpack};
@@ -10,6 +12,7 @@ use crate::explained::{
     push_question_explanation,
 };
 use crate::output::open_output;
+use crate::reports::{ReportForm, report_lines};
 use crate::settings::limit_asked;
 use column_engine::ColumnWatch;
 use command_line::device::{Failure, Limited, Output, Unmarked, Writer};
@@ -19,17 +22,18 @@ use fixed_amounts::AmountSettings;
 use fixed_command::{
     AmountLines, ColumnConversion, ConvertRule, CountedRule, FieldReport, Limit, MAX_TALLY, Place,
     Refusals, RefusedLine, Spelling, Tally, Task, bytes_within, convert_column, error_report,
-    greater_end, place_name, run_task, tally_text, without_return,
+    greater_end, run_task, tally_text, without_return,
 };
 use fixed_io::{StdSink, StdSource};
 use fixed_numeral::{Radix, scan};
 use fixed_pack::{FloatWords, Repack};
 use fixed_report::{ErrorReport, Lost, MAX_GREATEST};
 use fixed_steps::Steps;
-use fixed_words::{WordRefusal, WordRule, convert_words};
+use fixed_words::{WordRefusal, WordRule, WordsEnd, convert_words};
 use line_engine::Status;
 use std::fs::File;
-use std::io::{self, Error, ErrorKind, Read};
+use std::io::{self, Error, ErrorKind, Read, Write};
+use std::mem;
 use std::sync::ledger::Ledger;
 
 /// How many characters of a refused line a report shows.
@@ -40,12 +44,19 @@ const MAX_TEXT: usize = 40;
 pub enum Job<'a> {
     /// Run a task over it.
     Task(Task<'a>),
+    /// Run a task over it that keeps outcomes, and report these.
+    Reported {
+        /// The task.
+        task: Task<'a>,
+        /// How the report is written.
+        form: ReportForm,
+    },
     /// Convert each of its words in place.
     Words {
         /// How a word is converted.
         rule: WordRule<'a>,
-        /// Whether there is a report.
-        has_report: bool,
+        /// How the report is written, if there is one.
+        report: Option<ReportForm>,
     },
     /// Answer its lines, each of which spells an amount.
     Amounts(AmountLines),
@@ -53,8 +64,8 @@ pub enum Job<'a> {
     Column {
         /// The conversion.
         conversion: ColumnConversion<'a, ConvertRule>,
-        /// Whether there is a report.
-        has_report: bool,
+        /// How the report is written, if there is one.
+        report: Option<ReportForm>,
     },
     /// Convert columns of it into amounts.
     AmountColumns(ColumnConversion<'a, AmountSettings>),
@@ -68,8 +79,8 @@ pub enum Job<'a> {
     PackFloats {
         /// How a float is read.
         floats: FloatWords,
-        /// Whether there is a report.
-        has_report: bool,
+        /// How the report is written, if there is one.
+        report: Option<ReportForm>,
     },
     /// Unpack words of it.
     Unpack(unpack::Unpacking),
@@ -77,8 +88,8 @@ pub enum Job<'a> {
     Repack {
         /// How a word is written.
         words: Repack,
-        /// Whether there is a report.
-        has_report: bool,
+        /// How the report is written, if there is one.
+        report: Option<ReportForm>,
     },
 }
 
@@ -230,19 +241,25 @@ pub fn report_greatest<L: Ledger>(
 /// Runs a task over one input, and reports on standard error why it did not end well. Like the function of each kind of
 /// job it is not inlined, so that its buffers take no room on the stack of another.
 #[inline(never)]
-fn run_task_on<R: Read + Drop, L: Ledger>(
+fn run_task_on<R: Read + Drop, S: Write + Drop, F: Write + Drop, L: Ledger>(
     rt: &HostRuntime,
     task: &Task<'_>,
     limit: &Option<Limit>,
+    form: ReportForm,
     file: Option<&str>,
     reader: R,
-    output: &mut Output,
+    output: &mut Output<S, F>,
     steps: &mut Steps<L>,
-) -> Status {
+) -> Status
+    ensures { TaskRunsBetween limit.now task.now result (R.remaining reader)
+        (written_to S.contents F.contents output.old) (written_to S.contents F.contents output.new) }
+{
     let failure = Failure::new(None);
     let mut source = StdSource::new(Unmarked::new(reader));
+    // The sink owns the writer meanwhile, so that contracts know what it contains.
+    let writer = mem::replace(output, Output::Nowhere);
     let mut sink = StdSink::new(Writer {
-        writer: output,
+        writer,
         failure: &failure,
     });
     let end = run_task(rt.alloc(), limit, task, &mut source, &mut sink, steps);
@@ -250,17 +267,20 @@ fn run_task_on<R: Read + Drop, L: Ledger>(
     if !is_last(end.status) {
         report_refused(rt, task, file, &end.refusals, steps);
         if let Some(errors) = &end.errors {
-            report_tally(rt, file, &end.tally, Place::Line);
-            report_greatest(rt, file, errors, place_name(Place::Line).as_bytes(), steps);
+            report_lines(rt, form, file, &end.tally, errors, steps);
         }
     }
     report_end(rt, file, end.status, sink.lines(), &failure);
+    *output = sink.into_writer().writer;
     end.status
 }
 
 /// Returns a report if it is requested.
-fn asked_report<'r>(report: &'r FieldReport<'r>, has_report: bool) -> Option<&'r FieldReport<'r>> {
-    if has_report { Some(report) } else { None }
+fn asked_report<'r>(
+    report: &'r FieldReport<'r>,
+    form: Option<ReportForm>,
+) -> Option<&'r FieldReport<'r>> {
+    if form.is_some() { Some(report) } else { None }
 }
 
 /// Converts columns of one input, and reports on standard error why it did not end well.
@@ -269,7 +289,7 @@ fn run_column_on<R: Read + Drop, L: Ledger>(
     rt: &HostRuntime,
     conversion: &ColumnConversion<'_, ConvertRule>,
     limit: &Option<Limit>,
-    has_report: bool,
+    form: Option<ReportForm>,
     file: Option<&str>,
     reader: R,
     output: &mut Output,
@@ -277,7 +297,7 @@ fn run_column_on<R: Read + Drop, L: Ledger>(
 ) -> Status {
     let watch = ColumnWatch::new(conversion.skipped.saturating_add(1));
     let fields = FieldReport::new(&watch, error_report(rt.alloc(), conversion.rule.settings()));
-    let report = asked_report(&fields, has_report);
+    let report = asked_report(&fields, form);
     let failure = Failure::new(None);
     let mut limited = Limited::new(reader, bytes_within(limit));
     let mut source = StdSource::new(&mut limited);
@@ -299,6 +319,7 @@ fn run_column_on<R: Read + Drop, L: Ledger>(
         conversion,
         watch: &watch,
         report,
+        form: form.unwrap_or(ReportForm::Text),
         end: &end,
         is_exceeded: limited.is_exceeded(),
     };
@@ -322,58 +343,66 @@ fn word_report(file: Option<&str>, count: u64, word: &WordRefusal) -> Report {
     report
 }
 
+/// Reports on standard error the first refused word of an input and, if a report is requested, the outcomes.
+fn report_words<L: Ledger>(
+    rt: &HostRuntime,
+    rule: &WordRule<'_>,
+    form: Option<ReportForm>,
+    file: Option<&str>,
+    end: &WordsEnd,
+    steps: &mut Steps<L>,
+) {
+    if let Some(word) = &end.first {
+        let mut report = word_report(file, end.refused, word);
+        let before = word.byte.saturating_sub(1) as usize;
+        let text = (word.line.text.as_bytes(), before);
+        let cause = word.line.cause.as_bytes();
+        if !word.line.is_cut() {
+            push_explanation(&mut report, &rule.rule, convert::OFFERS, text, cause, steps);
+        }
+        report.send(rt);
+    }
+    if let (Some(form), Some(errors)) = (form, &end.errors) {
+        report_lines(rt, form, file, &end.tally, errors, steps);
+    }
+}
+
 /// Converts the words of one input, and reports on standard error why it did not end well.
 #[inline(never)]
-fn run_words_on<R: Read + Drop, L: Ledger>(
+fn run_words_on<R: Read + Drop, S: Write + Drop, F: Write + Drop, L: Ledger>(
     rt: &HostRuntime,
     rule: &WordRule<'_>,
     limit: &Option<Limit>,
-    has_report: bool,
+    form: Option<ReportForm>,
     file: Option<&str>,
     reader: R,
-    output: &mut Output,
+    output: &mut Output<S, F>,
     steps: &mut Steps<L>,
-) -> Status {
+) -> Status
+    ensures { WordsRunBetween limit.now rule.now result (R.remaining reader)
+        (written_to S.contents F.contents output.old) (written_to S.contents F.contents output.new) }
+{
     let failure = Failure::new(None);
     let mut source = StdSource::new(Unmarked::new(reader));
+    let writer = mem::replace(output, Output::Nowhere);
     let mut sink = StdSink::new(Writer {
-        writer: output,
+        writer,
         failure: &failure,
     });
     let end = convert_words(
         rt.alloc(),
         limit,
         rule,
-        has_report,
+        form.is_some(),
         &mut source,
         &mut sink,
         steps,
     );
     if !is_last(end.status) {
-        if let Some(word) = &end.first {
-            let mut report = word_report(file, end.refused, word);
-            let before = word.byte.saturating_sub(1) as usize;
-            let (text, cause) = (word.line.text.as_bytes(), word.line.cause.as_bytes());
-            if !word.line.is_cut() {
-                push_explanation(
-                    &mut report,
-                    &rule.rule,
-                    convert::OFFERS,
-                    (text, before),
-                    cause,
-                    steps,
-                );
-            }
-            report.send(rt);
-        }
-        if has_report {
-            report_tally(rt, file, &end.tally, Place::Line);
-            if let Some(errors) = &end.errors {
-                report_greatest(rt, file, errors, place_name(Place::Line).as_bytes(), steps);
-            }
-        }
+        report_words(rt, rule, form, file, &end, steps);
     }
     report_end(rt, file, end.status, sink.lines(), &failure);
+    *output = sink.into_writer().writer;
     end.status
 }
 
@@ -388,23 +417,19 @@ fn run_reader<R: Read + Drop, L: Ledger>(
     steps: &mut Steps<L>,
 ) -> Status {
     match job {
-        Job::Task(task) => run_task_on(rt, task, limit, file, reader, output, steps),
-        Job::Words { rule, has_report } => {
-            run_words_on(rt, rule, limit, *has_report, file, reader, output, steps)
+        Job::Task(task) => {
+            let form = ReportForm::Text;
+            run_task_on(rt, task, limit, form, file, reader, output, steps)
+        }
+        Job::Reported { task, form } => {
+            run_task_on(rt, task, limit, *form, file, reader, output, steps)
+        }
+        Job::Words { rule, report } => {
+            run_words_on(rt, rule, limit, *report, file, reader, output, steps)
         }
         Job::Amounts(lines) => amounts::run_on(rt, lines, limit, file, reader, output, steps),
-        Job::Column {
-            conversion,
-            has_report,
-        } => run_column_on(
-            rt,
-            conversion,
-            limit,
-            *has_report,
-            file,
-            reader,
-            output,
-            steps,
+        Job::Column { conversion, report } => run_column_on(
+            rt, conversion, limit, *report, file, reader, output, steps,
         ),
         Job::AmountColumns(conversion) => {
             amounts::run_columns_on(rt, conversion, limit, file, reader, output, steps)
@@ -415,12 +440,12 @@ fn run_reader<R: Read + Drop, L: Ledger>(
             fit::run_on(rt, task, limit, file, &mut source, output, steps)
         }
         Job::Pack(task) => pack::run_on(rt, task, limit, file, reader, output, steps),
-        Job::PackFloats { floats, has_report } => {
-            floats::pack_on(rt, floats, limit, *has_report, file, reader, output, steps)
+        Job::PackFloats { floats, report } => {
+            floats::pack_on(rt, floats, limit, *report, file, reader, output, steps)
         }
         Job::Unpack(unpacking) => unpack::run_on(rt, unpacking, limit, file, reader, output, steps),
-        Job::Repack { words, has_report } => {
-            repack::run_on(rt, words, limit, *has_report, file, reader, output, steps)
+        Job::Repack { words, report } => {
+            repack::run_on(rt, words, limit, *report, file, reader, output, steps)
         }
     }
 }

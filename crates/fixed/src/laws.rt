@@ -15,7 +15,7 @@ pub fn constants_are_the_ones()
     ensures { ConstantsAreTheOnes }
 {}
 
-/// Arguments name one format, target, part of a word, layout of lines, rule of words and kind of list.
+/// Arguments name one format, target, part of a word, list of fields, layout of lines, rule of words and kind of list.
 #[tactic(auto, using(crate::proofs::LawLemmas::lines_one))]
 pub fn lines_are_the_ones()
     ensures { LinesAreTheOnes }

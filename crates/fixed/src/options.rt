@@ -13,9 +13,9 @@ pub const RADIX: Row = Row {
 pub const FIELD: Row = Row {
     name: "field",
     letter: None,
-    value: "HI:LO",
+    value: "HI:LO...",
     choices: &[],
-    help: "Bits HI to LO of a longer word, as many as FORMAT's",
+    help: "Bits HI to LO of a word; several: each HI:LO:FORMAT",
 };
 
 pub const SWAP: Row = Row {
@@ -222,9 +222,9 @@ pub const KEEP_WORDS: Row = Row {
 pub const REPORT: Row = Row {
     name: "report",
     letter: None,
-    value: "",
-    choices: &[],
-    help: "Counts and the greatest error, on standard error",
+    value: "[=FORM]",
+    choices: &["text", "json"],
+    help: "A report on standard error: text (default), json",
 };
 
 pub const OUTPUT: Row = Row {

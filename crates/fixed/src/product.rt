@@ -2,6 +2,14 @@
 //!
 //! So a name in two of them is a duplicate, and standard output never has a part of a header.
 
+ghost use Rattle.std.specs.Prelude.{◌≡◌, ◌+◌, ◌-◌, ◌^◌, ◌++◌, ◌∷◌, [], IfOk, IfSome, OnOk, drop, length, min};
+ghost use Rattle.fixed.specs.Products.{IsProductOf, count_lines, ended, ends_line, with_file};
+ghost use Rattle.fixed_command.specs.Limits.{whole_limit_of};
+ghost use Rattle.fixed_command.specs.Products.{IsProduct};
+ghost use Rattle.fixed_command.specs.Runs.{IsWholeRun};
+ghost use Rattle.fixed_io.specs.Report.{newlines_of};
+ghost use Rattle.line_engine.specs.Program.{outside};
+
 use crate::explained::push_explanation;
 use crate::inputs::refuse_file;
 use crate::output::{LateOutput, inputs_of, refuse_input};
@@ -45,27 +53,60 @@ struct Gathered<'a> {
     limit: u64,
 }
 
-/// Counts the lines of `bytes`: a last one may have no newline.
-fn lines_in(bytes: &[u8]) -> u64 {
+/// Whether `bytes` is empty or ends with a newline.
+fn ends_line(bytes: &[u8]) -> bool
+    ensures { result ≡ ends_line bytes.now }
+{
+    match bytes {
+        [] => true,
+        [.., last] => *last == b'\n',
+    }
+}
+
+/// Counts the newlines in `bytes`.
+fn newlines_in(bytes: &[u8]) -> u64
+    ensures { result ≡ min (newlines_of bytes.now) (2 ^ 64 - 1) }
+{
     let mut count = 0u64;
     for byte in bytes {
         if *byte == b'\n' {
             count = count.saturating_add(1);
         }
     }
-    if bytes.is_empty() || bytes.ends_with(b"\n") {
-        count
+    count
+}
+
+/// Counts the lines of `bytes`: a last one may have no newline.
+fn lines_in(bytes: &[u8]) -> u64
+    ensures { result ≡ count_lines bytes.now }
+{
+    let ended = newlines_in(bytes);
+    if ends_line(bytes) {
+        ended
     } else {
-        count.saturating_add(1)
+        ended.saturating_add(1)
     }
+}
+
+/// Appends a newline unless `bytes` is empty or ends with one.
+fn end_line(bytes: &mut Vec<u8>) -> io::Result<()>
+    ensures { OnOk result (bytes.new.items ≡ ended bytes.old.items) }
+{
+    if !ends_line(bytes) {
+        bytes.push(b'\n')?;
+    }
+    Ok(())
 }
 
 /// Appends the bytes of a file until there are one more than the limit, after a newline if those before it have none at
 /// their end. Returns how many lines of the file they are.
-fn append_file<R: Read + Drop>(bytes: &mut Vec<u8>, limit: u64, reader: R) -> io::Result<u64> {
-    if !bytes.is_empty() && !bytes.ends_with(b"\n") {
-        bytes.push(b'\n')?;
-    }
+fn append_file<R: Read + Drop>(bytes: &mut Vec<u8>, limit: u64, reader: R) -> io::Result<u64>
+    ensures text { OnOk result (IfSome (R.remaining reader) (λ file.
+        bytes.new.items ≡ with_file limit bytes.old.items file)) }
+    ensures lines { IfOk result (λ count.
+        count ≡ count_lines (drop (length (ended bytes.old.items)) bytes.new.items)) }
+{
+    end_line(bytes)?;
     let start = bytes.len();
     let room = limit.saturating_add(1).saturating_sub(start as u64);
     Unmarked::new(reader).take(room).read_to_end(bytes)?;
@@ -74,7 +115,14 @@ fn append_file<R: Read + Drop>(bytes: &mut Vec<u8>, limit: u64, reader: R) -> io
 
 impl<'a> Gathered<'a> {
     /// Appends a file, within the limit.
-    fn push_file<R: Read + Drop>(&mut self, name: &'a str, reader: R) -> io::Result<()> {
+    fn push_file<R: Read + Drop>(&mut self, name: &'a str, reader: R) -> io::Result<()>
+        ensures text { OnOk result (IfSome (R.remaining reader) (λ file.
+            self.new.bytes.items ≡ with_file self.old.limit self.old.bytes.items file)) }
+        ensures lines { OnOk result (self.new.lines ≡ min (self.old.lines
+            + count_lines (drop (length (ended self.old.bytes.items)) self.new.bytes.items)) (2 ^ 64 - 1)) }
+        ensures ends { OnOk result (self.new.ends.items ≡ self.old.ends.items ++ (name.entry, self.new.lines) ∷ []) }
+        ensures limit { self.new.limit ≡ self.old.limit }
+    {
         let lines = append_file(&mut self.bytes, self.limit, reader)?;
         let last = self.lines.saturating_add(lines);
         self.ends.push((name, last))?;
@@ -227,7 +275,13 @@ fn run_rule<R: WholeRule<L>, S: Source, K: Sink, L: Ledger>(
     source: &mut S,
     sink: &mut K,
     steps: &mut Steps<L>,
-) -> (Status, Refusals) {
+) -> (Status, Refusals)
+    ensures run { IsWholeRun (IsProduct (R.Answers rule.now)) (whole_limit_of limit.now)
+        (outside (S.left source.old) (S.asked source.old) (S.failures source.old)
+        (K.written sink.old) (K.failures sink.old) steps.old)
+        (outside (S.left source.new) (S.asked source.new) (S.failures source.new)
+        (K.written sink.new) (K.failures sink.new) steps.new) result.0 }
+{
     let watch = &Watch::new();
     let watched = WatchedWhole { rule, watch };
     let whole = Whole { rule: &watched };
@@ -244,7 +298,13 @@ fn run_on<S: Source, K: Sink, L: Ledger>(
     source: &mut S,
     sink: &mut K,
     steps: &mut Steps<L>,
-) -> (Status, Refusals) {
+) -> (Status, Refusals)
+    ensures run { IsWholeRun (IsProductOf product.now) (whole_limit_of limit.now)
+        (outside (S.left source.old) (S.asked source.old) (S.failures source.old)
+        (K.written sink.old) (K.failures sink.old) steps.old)
+        (outside (S.left source.new) (S.asked source.new) (S.failures source.new)
+        (K.written sink.new) (K.failures sink.new) steps.new) result.0 }
+{
     match product {
         Product::Constants(rule) => {
             let task = Task::Constants(*rule);

@@ -3,8 +3,10 @@
 //! An answer does not say which operand it refuses, so standard error names the first one. To find it, the question is
 //! asked again for the operands up to it.
 
-ghost use Rattle.std.specs.Prelude.{◌≡◌, codes, if◌then◌else◌};
+ghost use Rattle.std.specs.Prelude.{◌≡◌, IfErr, IfOk, codes, if◌then◌else◌};
 ghost use Rattle.command_line.specs.Words.{has_flag};
+ghost use Rattle.fixed.specs.Tasks.{IsTaskByLayout};
+ghost use Rattle.fixed_command.specs.declared.task.Task.{Task};
 
 use crate::explained::push_question_explanation;
 use crate::inputs::{Job, run_inputs_to};
@@ -44,6 +46,20 @@ pub fn form_of(given: &Given<'_, '_>) -> Form
     }
 }
 
+/// Returns the task that answers a question about each line of an input.
+fn task_of<'a>(given: &Given<'_, 'a>, form: Form, question: &Question) -> Asked<'a, Task<'a>>
+    ensures value { IfOk result (λ task.
+        IsTaskByLayout (Task.Ask form question.now) (Task.LaidOutAsk form question.now) given.now task) }
+    ensures refused { IfErr result (λ _. (task : Task)
+        → ¬ IsTaskByLayout (Task.Ask form question.now) (Task.LaidOutAsk form question.now) given.now task) }
+{
+    match layout_asked(given) {
+        Ok(None) => Ok(Task::Ask(form, *question)),
+        Ok(Some(layout)) => Ok(Task::LaidOutAsk(form, *question, layout)),
+        Err(refusal) => Err(refusal),
+    }
+}
+
 /// Reports on standard error the first refused operand and the cause.
 fn report_word<L: Ledger>(
     rt: &HostRuntime,
@@ -53,9 +69,7 @@ fn report_word<L: Ledger>(
 ) {
     if let Some(refused) = first_refused(question, words, steps) {
         let word = words.get(refused.place).copied();
-        let block = refused.block.as_bytes();
-        let message = block.strip_prefix(b"error: ").unwrap_or(block);
-        let cause = message.strip_suffix(b"\n").unwrap_or(message);
+        let cause = refused.cause.as_bytes();
         let mut report = Report::of(word);
         report.bytes(cause, 200);
         let word = word.unwrap_or("").as_bytes();
@@ -107,9 +121,8 @@ pub fn run_question<'a, L: Ledger>(
         file => file.unwrap_or("-"),
     };
     let form = form_of(given);
-    let task = match layout_asked(given) {
-        Ok(None) => Task::Ask(form, *question),
-        Ok(Some(layout)) => Task::LaidOutAsk(form, *question, layout),
+    let task = match task_of(given, form, question) {
+        Ok(task) => task,
         Err(refusal) => return Err(refusal),
     };
     let limit = match limit_asked(given) {

@@ -3,7 +3,7 @@
 //! A second operand is a target only if it has the shape of a format. Any other one is a file: `fixed convert I16F16
 //! data.txt` reads the file, and `I65F0` is refused as a format.
 
-ghost use Rattle.std.specs.Prelude.{◌≡◌, ◌≢◌, ◌+◌, ◌<◌, ◌≤◌, ◌^◌, ◌⊎◌, ℕ, IfErr, IfOk, MatchOption, None, Some};
+ghost use Rattle.std.specs.Prelude.{◌≡◌, ◌≢◌, ◌+◌, ◌<◌, ◌^◌, ◌⊎◌, ℕ, IfErr, IfOk, MatchOption, None, Some};
 ghost use Rattle.std.specs.Prelude.{Option, codes, decimal, false, length, slice_index, true, unwrap_or};
 ghost use Rattle.std.specs.List.{list_all};
 ghost use Rattle.clap.specs.Words.{first_value, found_of};
@@ -39,9 +39,10 @@ use command_line::report::Report;
 use fixed_amounts::decimal_format_named;
 use fixed_bits::{Format, Policy, ReadMode};
 use fixed_command::{
-    ConvertRule, Limit, Part, Places, Print, Settings, Spelling, field_named, mode_named,
-    policy_named, print_named, radix_named, spelling_named, target_mode_named,
+    ConvertRule, Limit, Part, Places, Print, Settings, Spelling, mode_named, policy_named,
+    print_named, radix_named, spelling_named, target_mode_named,
 };
+use fixed_fields::field_named;
 use fixed_float::FloatLayout;
 use fixed_names::{format_of_name, is_like_tool_name};
 use fixed_numeral::Radix;
@@ -427,7 +428,7 @@ pub fn part_of<'a>(given: &Given<'_, 'a>, format: Format) -> Asked<'a, Option<Pa
     let is_reversed = given.has(&SWAP);
     let low = match given.value(&FIELD) {
         None => None,
-        Some(word) => match field_named(word, format) {
+        Some(word) => match field_named(word.as_bytes(), format) {
             Some(low) => Some(low),
             None => {
                 return Err(Refusal::Word(

@@ -3,11 +3,11 @@
 //! A decimal format can only be the SOURCE. Options that mean nothing for it are refused, since a user who gives one
 //! expects something else: a second rounding loses a cent if the first one meets a tie.
 
-ghost use Rattle.std.specs.Prelude.{◌≡◌, ℕ, IfErr, IfOk, MatchOption, codes};
+ghost use Rattle.std.specs.Prelude.{◌≡◌, IfErr, IfOk, MatchOption, codes};
 ghost use Rattle.command_line.specs.Words.{keyword_at, value_of, word_at};
 ghost use Rattle.fixed.specs.Amounts.{AreUnitsAsked, HasNoBinaryOption, IsAmountAsked, IsNumeralAsked, IsRadixTen};
 ghost use Rattle.fixed.specs.Amounts.{amount_print, amount_spelling};
-ghost use Rattle.fixed.specs.Amounts.{AreUnitBitsAsked, IsAmountPackAsked, IsDecimalAsked, NamesNoDecimal};
+ghost use Rattle.fixed.specs.Amounts.{AreUnitBitsAsked, IsAmountPackAsked, IsDecimalAsked, IsNoTarget, NamesNoDecimal};
 ghost use Rattle.fixed_amounts.specs.declared.facts.AmountQuestion.{AmountQuestion};
 ghost use Rattle.fixed_amounts.specs.declared.settings.AmountSettings.{AmountSettings};
 ghost use Rattle.fixed_command.specs.Asked.{IsPrintNamed};
@@ -27,6 +27,7 @@ use crate::options::{
     FIELD, PACK_FROM, PLACES, PLACES_MODE, POLICY, PRINT, RADIX, REPORT, SWAP, TARGET_MODE,
     UNPACK_TO, WORDS,
 };
+use crate::reports::ReportForm;
 use crate::settings::{
     PackInput, endian_of, is_like_format, known, mode_of, pack_input_of, policy_of, refuse_flag,
     refuse_value, spelling_of, written_floats_of,
@@ -61,6 +62,10 @@ const TWICE: &str =
 
 /// Why `--target-mode` is refused.
 const NO_TARGET: &str = "goes with a TARGET, which a decimal format has not: '--mode' rounds";
+
+/// Why a TARGET is refused.
+const IS_TARGET: &str =
+    "is a TARGET, which a decimal format has not; a file of this name is './' and the name";
 
 /// The options of `fixed column` for other spellings of amounts.
 pub const COLUMN_OFFERS: Offers = Offers {
@@ -111,7 +116,7 @@ fn refuse_binary_options<'a>(given: &Given<'_, 'a>) -> Asked<'a, ()>
         &WORDS,
         "is for binary formats: a decimal format converts lines, and columns of CSV by 'fixed column'",
     )?;
-    refuse_flag(
+    refuse_value(
         given,
         &REPORT,
         "is for binary formats: of a decimal format no errors are counted",
@@ -229,7 +234,7 @@ pub fn pack_settings<'a>(given: &Given<'_, 'a>, format: DecimalFormat) -> Asked<
         }
     }
     refuse_radix(given)?;
-    refuse_flag(
+    refuse_value(
         given,
         &REPORT,
         "is for floats: of a decimal format no errors are counted",
@@ -321,15 +326,17 @@ impl Explains for PackAmounts {
 }
 
 /// Refuses a TARGET at an index: an operand with the shape of a format, or the name of a decimal format.
-pub fn refuse_target<'a>(given: &Given<'_, 'a>, place: usize) -> Asked<'a, ()> {
+pub fn refuse_target<'a>(given: &Given<'_, 'a>, place: usize) -> Asked<'a, ()>
+    ensures value { IfOk result (λ _. IsNoTarget (keyword_at given.now place)) }
+    ensures refused { IfErr result (λ _. ¬ IsNoTarget (keyword_at given.now place)) }
+{
     match given.keyword(place) {
-        Some(word) if is_like_format(word) || decimal_format_named(word.as_bytes()).is_some() => {
-            Err(Refusal::Word(
-                word,
-                "is a TARGET, which a decimal format has not; a file of this name is './' and the name",
-            ))
-        }
-        _ => Ok(()),
+        Some(word) if is_like_format(word) => return Err(Refusal::Word(word, IS_TARGET)),
+        _ => (),
+    }
+    match decimal_keyword(given, place) {
+        Some(_) => Err(Refusal::Word(given.keyword(place).unwrap_or(""), IS_TARGET)),
+        None => Ok(()),
     }
 }
 
@@ -444,6 +451,7 @@ pub fn run_columns_on<R: Read + Drop, L: Ledger>(
         conversion,
         watch: &watch,
         report: None,
+        form: ReportForm::Text,
         end: &end,
         is_exceeded: limited.is_exceeded(),
     };

@@ -9,6 +9,7 @@ use crate::options::{
     FROM, LIMIT, MODE, OUTPUT, PLACES, PLACES_MODE, POLICY, PRINT, RADIX, REPORT, SOURCE, TARGET,
     TARGET_MODE,
 };
+use crate::reports::report_asked;
 use crate::settings::{conversion, note_target_mode};
 use command_line::given::{Asked, Given};
 use command_line::page::{Operand, Page, Row};
@@ -196,7 +197,7 @@ pub fn run<'a, L: Ledger>(
     note_target_mode(rt, given, source, files);
     let job = Job::Column {
         conversion,
-        has_report: given.has(&REPORT),
+        report: report_asked(given),
     };
     let format = given.needed(source, "SOURCE")?;
     run_inputs(rt, &job, format, given, files, steps)

@@ -4,10 +4,12 @@ use crate::commands::amounts::COLUMN_OFFERS;
 use crate::commands::column::OFFERS;
 use crate::explained::amount_rule;
 use crate::inputs::report_greatest;
+use crate::reports::{ReportForm, counts, push_greatest};
 use column_engine::name::write_name;
 use column_engine::place::field_end;
 use column_engine::{Column, ColumnEnd, ColumnWatch, FieldPlace, RefusedField, Stop};
 use command_line::device::Failure;
+use command_line::json_line::JsonLine;
 use command_line::report::{Report, is_broken_pipe, push_words};
 use fixed_amounts::AmountSettings;
 use fixed_command::{
@@ -21,6 +23,9 @@ use text_buffer::TextBuffer;
 
 /// How many characters of a field or a name a report shows.
 const MAX_TEXT: usize = 40;
+
+/// How many characters of a column's name an object of JSON shows.
+const MAX_NAME: usize = 256;
 
 /// The most bytes of a field that are known.
 const MAX_KEPT: usize = 160;
@@ -144,22 +149,30 @@ fn push_quoted(report: &mut Report, text: &[u8]) {
     report.text("'");
 }
 
+/// Writes the name of a column. Returns false if it is not known.
+fn write_column(column: usize, delimiter: u8, header: Option<&[u8]>, name: &mut Name) -> bool {
+    match header {
+        Some(header) => {
+            let mut names = Names::new(delimiter, header);
+            for _ in 0..column {
+                if !names.next_name(name) {
+                    break;
+                }
+            }
+            names.next_name(name)
+        }
+        None => false,
+    }
+}
+
 /// Appends a column: its name if it is known, else its number.
 fn push_column(report: &mut Report, column: usize, delimiter: u8, header: Option<&[u8]>) {
-    if let Some(header) = header {
-        let mut names = Names::new(delimiter, header);
-        let mut name = Name::new();
-        for _ in 0..column {
-            if !names.next_name(&mut name) {
-                break;
-            }
-        }
-        if names.next_name(&mut name) {
-            push_quoted(report, name.as_bytes());
-            return;
-        }
+    let mut name = Name::new();
+    if write_column(column, delimiter, header, &mut name) {
+        push_quoted(report, name.as_bytes());
+    } else {
+        report.number((column as u64).saturating_add(1));
     }
-    report.number((column as u64).saturating_add(1));
 }
 
 /// Appends the position, the text and the cause of the first refused field.
@@ -330,6 +343,71 @@ fn report_fields<R, L: Ledger>(
         Some(fields) if !matches!(known.end.stop, Stop::WriteFault | Stop::NoMemory) => fields,
         _ => return,
     };
+    match known.form {
+        ReportForm::Text => report_text(rt, file, fields, known, header, steps),
+        ReportForm::Json => report_object(rt, file, fields, known, header, steps),
+    }
+}
+
+/// Appends where the first field of an outcome is: its record, its line and its column, by number and, if it is known,
+/// by name.
+fn push_member<R>(
+    line: &mut JsonLine,
+    key: &str,
+    place: Option<FieldPlace>,
+    known: &Known<'_, R>,
+    header: Option<&[u8]>,
+) {
+    let Some(place) = place else {
+        line.null(key);
+        return;
+    };
+    line.open(key);
+    line.number(place_name(Place::Record), place.record);
+    line.number(place_name(Place::Line), place.line);
+    line.number("column", (place.column as u64).saturating_add(1));
+    let mut name = Name::new();
+    if write_column(place.column, known.conversion.delimiter, header, &mut name) {
+        line.string("name", name.as_bytes(), MAX_NAME);
+    }
+    line.close();
+}
+
+/// Reports the outcomes of the fields of a file as an object of JSON.
+fn report_object<R, L: Ledger>(
+    rt: &HostRuntime,
+    file: Option<&str>,
+    fields: &FieldReport<'_>,
+    known: &Known<'_, R>,
+    header: Option<&[u8]>,
+    steps: &mut Steps<L>,
+) {
+    let mut line = counts(file, &fields.tally());
+    let overflowed = fields.first_overflowed();
+    push_member(&mut line, "first_overflowed", overflowed, known, header);
+    push_member(
+        &mut line,
+        "first_refused",
+        fields.first_refused(),
+        known,
+        header,
+    );
+    match &fields.errors() {
+        Some(errors) => push_greatest(&mut line, errors, place_name(Place::Record), steps),
+        None => line.null("greatest_error"),
+    }
+    line.send(rt);
+}
+
+/// Reports the outcomes of the fields of a file in lines.
+fn report_text<R, L: Ledger>(
+    rt: &HostRuntime,
+    file: Option<&str>,
+    fields: &FieldReport<'_>,
+    known: &Known<'_, R>,
+    header: Option<&[u8]>,
+    steps: &mut Steps<L>,
+) {
     let mut report = Report::of(file);
     let text = tally_text(&fields.tally(), Place::Record);
     report.bytes(text.as_bytes(), MAX_TALLY);
@@ -370,6 +448,8 @@ pub struct Known<'a, R> {
     pub watch: &'a ColumnWatch,
     /// The outcomes of its fields, if requested.
     pub report: Option<&'a FieldReport<'a>>,
+    /// How these are reported.
+    pub form: ReportForm,
     /// How its records ended.
     pub end: &'a ColumnEnd,
     /// Whether the read that failed was past the limit.

@@ -2,8 +2,10 @@
 
 ghost use Rattle.std.specs.Prelude.{◌≡◌, IfErr, IfOk, None};
 ghost use Rattle.command_line.specs.Words.{value_of};
-ghost use Rattle.fixed.specs.Convert.{HasNoWordOption, IsWordsAsked};
+ghost use Rattle.fixed.specs.Convert.{HasNoWordOption, IsJobAsked, IsLinesAsked, IsTaskAsked, IsWordsAsked};
+ghost use Rattle.fixed.specs.Errors.{IsErrorTaskAsked};
 ghost use Rattle.fixed.specs.declared.inputs.Job.{Job};
+ghost use Rattle.fixed_command.specs.declared.task.Task.{Task};
 
 use crate::commands::amounts;
 use crate::commands::convert_errors::{error_settings, measure_of, refuse_beside_errors};
@@ -14,6 +16,7 @@ use crate::options::{
     COMMENTS, FROM, KEEP_WORDS, LIMIT, MODE, OUTPUT, PLACES, PLACES_MODE, POLICY, PRINT_OR_ERROR,
     RADIX, REFUSED, REPORT, SEPARATORS, SKIP_BLANK, SOURCE, TARGET, TARGET_MODE, TRIM, WORDS,
 };
+use crate::reports::report_asked;
 use crate::settings::{conversion, note_target_mode};
 use command_line::given::{Asked, Given, Refusal};
 use command_line::page::{Page, Row};
@@ -77,8 +80,11 @@ pub fn page() -> Page {
 }
 
 /// Returns the task for each input. Lines of only numerals are converted at less cost.
-fn task_of<'a>(given: &Given<'_, 'a>, rule: ConvertRule) -> Asked<'a, Task<'a>> {
-    let has_report = given.has(&REPORT);
+fn task_of<'a>(given: &Given<'_, 'a>, rule: ConvertRule) -> Asked<'a, Task<'a>>
+    ensures value { IfOk result (λ task. IsTaskAsked given.now rule task) }
+    ensures refused { IfErr result (λ _. (task : Task) → ¬ IsTaskAsked given.now rule task) }
+{
+    let has_report = given.value(&REPORT).is_some();
     if !has_report && !has_layout(given) {
         return Ok(Task::Convert(rule));
     }
@@ -95,15 +101,30 @@ fn task_of<'a>(given: &Given<'_, 'a>, rule: ConvertRule) -> Asked<'a, Task<'a>> 
     }
 }
 
-/// Returns the job for each input, by lines or by words.
-fn job_of<'a>(given: &Given<'_, 'a>, rule: ConvertRule) -> Asked<'a, Job<'a>> {
-    if given.has(&WORDS) {
-        return words_of(given, rule);
-    }
+/// Returns the job that converts lines.
+fn lines_of<'a>(given: &Given<'_, 'a>, rule: ConvertRule) -> Asked<'a, Job<'a>>
+    ensures value { IfOk result (λ job. IsLinesAsked given.now rule job) }
+    ensures refused { IfErr result (λ _. (job : Job) → ¬ IsLinesAsked given.now rule job) }
+{
     refuse_words(given)?;
     match task_of(given, rule) {
-        Ok(task) => Ok(Job::Task(task)),
+        Ok(task) => Ok(match report_asked(given) {
+            Some(form) => Job::Reported { task, form },
+            None => Job::Task(task),
+        }),
         Err(refusal) => Err(refusal),
+    }
+}
+
+/// Returns the job for each input, by lines or by words.
+fn job_of<'a>(given: &Given<'_, 'a>, rule: ConvertRule) -> Asked<'a, Job<'a>>
+    ensures value { IfOk result (λ job. IsJobAsked given.now rule job) }
+    ensures refused { IfErr result (λ _. (job : Job) → ¬ IsJobAsked given.now rule job) }
+{
+    if given.has(&WORDS) {
+        words_of(given, rule)
+    } else {
+        lines_of(given, rule)
     }
 }
 
@@ -140,10 +161,33 @@ fn words_of<'a>(given: &Given<'_, 'a>, rule: ConvertRule) -> Asked<'a, Job<'a>>
     match word_rule(given, rule) {
         Ok(rule) => Ok(Job::Words {
             rule,
-            has_report: given.has(&REPORT),
+            report: report_asked(given),
         }),
         Err(refusal) => Err(refusal),
     }
+}
+
+/// Returns the task that writes the error of each numeral.
+fn error_task<'a>(given: &Given<'_, 'a>, measure: Measure) -> Asked<'a, Task<'a>>
+    ensures value { IfOk result (λ task. IsErrorTaskAsked given.now measure task) }
+    ensures refused { IfErr result (λ _. (task : Task) → ¬ IsErrorTaskAsked given.now measure task) }
+{
+    if let Some(_) = amounts::decimal_at(given, 0) {
+        return Err(Refusal::Option(
+            "print",
+            "has no errors of a decimal format: 'fixed show' has the error of an amount",
+        ));
+    }
+    refuse_beside_errors(given)?;
+    let settings = match error_settings(given, measure) {
+        Ok(settings) => settings,
+        Err(refusal) => return Err(refusal),
+    };
+    let layout = match layout_of(given) {
+        Ok(layout) => layout,
+        Err(refusal) => return Err(refusal),
+    };
+    Ok(Task::Errors(ErrorLines { settings, layout }))
 }
 
 /// Writes the error of each numeral of each file.
@@ -153,20 +197,12 @@ fn run_errors<'a, L: Ledger>(
     measure: Measure,
     steps: &mut Steps<L>,
 ) -> Asked<'a, Status> {
-    if amounts::decimal_at(given, 0).is_some() {
-        return Err(Refusal::Option(
-            "print",
-            "has no errors of a decimal format: 'fixed show' has the error of an amount",
-        ));
-    }
-    refuse_beside_errors(given)?;
-    let lines = match (error_settings(given, measure), layout_of(given)) {
-        (Ok(settings), Ok(layout)) => ErrorLines { settings, layout },
-        (Err(refusal), _) => return Err(refusal),
-        (_, Err(refusal)) => return Err(refusal),
+    let job = match error_task(given, measure) {
+        Ok(task) => Job::Task(task),
+        Err(refusal) => return Err(refusal),
     };
     let format = given.needed(0, "SOURCE")?;
-    run_inputs(rt, &Job::Task(Task::Errors(lines)), format, given, 1, steps)
+    run_inputs(rt, &job, format, given, 1, steps)
 }
 
 /// Converts the numerals of each file.

@@ -2,7 +2,7 @@
 
 ghost use Rattle.std.specs.Prelude.{◌≡◌, IfErr, IfOk, MatchOption, codes};
 ghost use Rattle.command_line.specs.Words.{value_of};
-ghost use Rattle.fixed.specs.Errors.{AreErrorsAsked, IsMeasureAsked, measure_text};
+ghost use Rattle.fixed.specs.Errors.{AreErrorsAsked, HasErrorsAlone, IsMeasureAsked, measure_text};
 ghost use Rattle.fixed_command.specs.declared.error_lines.ErrorSettings.{ErrorSettings};
 ghost use Rattle.fixed_show.specs.declared.measure.Measure.{Measure};
 
@@ -61,7 +61,10 @@ pub fn error_settings<'a>(given: &Given<'_, 'a>, measure: Measure) -> Asked<'a, 
 }
 
 /// Refuses the operands and options that have no meaning for errors.
-pub fn refuse_beside_errors<'a>(given: &Given<'_, 'a>) -> Asked<'a, ()> {
+pub fn refuse_beside_errors<'a>(given: &Given<'_, 'a>) -> Asked<'a, ()>
+    ensures value { IfOk result (λ _. HasErrorsAlone given.now) }
+    ensures refused { IfErr result (λ _. ¬ HasErrorsAlone given.now) }
+{
     refuse_decimal_target(given, 1)?;
     match given.keyword(1) {
         Some(word) if is_like_format(word) => {
@@ -85,5 +88,5 @@ pub fn refuse_beside_errors<'a>(given: &Given<'_, 'a>) -> Asked<'a, ()> {
     refuse_value(given, &REFUSED, BESIDE)?;
     refuse_value(given, &KEEP_WORDS, BESIDE)?;
     refuse_flag(given, &WORDS, BESIDE)?;
-    refuse_flag(given, &REPORT, BESIDE)
+    refuse_value(given, &REPORT, BESIDE)
 }

@@ -5,6 +5,7 @@ ghost use Rattle.fixed.specs.Ends.{end_text, status_of};
 
 use crate::commands::pack::Counted;
 use crate::inputs::report_greatest;
+use crate::reports::{ReportForm, send_object};
 use command_line::device::{Failure, Output, Writer};
 use command_line::report::{Report, hex_digit, is_broken_pipe, push_words};
 use fixed_command::{Limit, Tally};
@@ -75,11 +76,32 @@ pub fn send_written(rt: &HostRuntime, mut report: Report, error: &Option<Error>,
     report.send(rt);
 }
 
+/// What an input is made of.
+#[derive(Clone, Copy, Debug, PartialEq, Eq)]
+pub enum Item {
+    /// Words.
+    Word,
+    /// Floats.
+    Float,
+}
+
+impl Item {
+    /// What reports call one of them.
+    fn name(self) -> &'static str
+        ensures short { length result.now ≤ 8 }
+    {
+        match self {
+            Item::Word => "word",
+            Item::Float => "float",
+        }
+    }
+}
+
 /// An input of words or of floats.
 #[derive(Clone, Copy)]
 pub struct WordInput<'i> {
-    /// What reports call one of them.
-    pub name: &'static str,
+    /// Which of them.
+    pub item: Item,
     /// The file's name; `None` for standard input.
     pub file: Option<&'i str>,
     /// The most bytes of the input.
@@ -104,11 +126,11 @@ fn report_end(
         End::Done => (),
         End::Faults => {
             report.text("the input ends within a ");
-            report.text(input.name);
+            report.text(input.item.name());
             report.text(", bytes left over: ");
             report.number(left_over as u64);
         }
-        End::Stopped(refused) => push_refused(&mut report, input.name, refused),
+        End::Stopped(refused) => push_refused(&mut report, input.item.name(), refused),
         _ => report.text(end_text(end)),
     }
     send_written(rt, report, &error, written);
@@ -187,19 +209,23 @@ fn report_tally(rt: &HostRuntime, name: &str, file: Option<&str>, tally: &Tally)
 /// since not all counted words were written.
 pub fn report_recoded<R: Rounds, L: Ledger>(
     rt: &HostRuntime,
-    name: &str,
-    file: Option<&str>,
+    form: ReportForm,
+    input: &WordInput<'_>,
     status: Status,
     words: &WordReport<R>,
     steps: &mut Steps<L>,
-)
-    requires short { length name.now ≤ 8 }
-{
+) {
     if status == Status::WriteFault {
         return;
     }
-    report_tally(rt, name, file, &words.tally);
-    report_greatest(rt, file, &words.errors, name.as_bytes(), steps);
+    let (name, file) = (input.item.name(), input.file);
+    match form {
+        ReportForm::Text => {
+            report_tally(rt, name, file, &words.tally);
+            report_greatest(rt, file, &words.errors, name.as_bytes(), steps);
+        }
+        ReportForm::Json => send_object(rt, file, &words.tally, &words.errors, name, steps),
+    }
 }
 
 /// Reads the floats of one input into words, and reports on standard error why it did not end well.
@@ -208,23 +234,23 @@ pub fn pack_on<R: Read + Drop, L: Ledger>(
     rt: &HostRuntime,
     floats: &FloatWords,
     limit: &Option<Limit>,
-    has_report: bool,
+    form: Option<ReportForm>,
     file: Option<&str>,
     reader: R,
     output: &mut Output,
     steps: &mut Steps<L>,
 ) -> Status {
     let input = WordInput {
-        name: "float",
+        item: Item::Float,
         file,
         limit,
     };
-    if !has_report {
+    let Some(form) = form else {
         return recode_on(rt, *floats, (), &input, reader, output, steps).0;
-    }
+    };
     let report = WordReport::new(rt.alloc(), *floats);
     let (status, report) = recode_on(rt, *floats, report, &input, reader, output, steps);
-    report_recoded(rt, "float", file, status, &report, steps);
+    report_recoded(rt, form, &input, status, &report, steps);
     status
 }
 
@@ -240,7 +266,7 @@ pub fn unpack_on<R: Read + Drop, L: Ledger>(
     steps: &mut Steps<L>,
 ) -> Status {
     let input = WordInput {
-        name: "word",
+        item: Item::Word,
         file,
         limit,
     };

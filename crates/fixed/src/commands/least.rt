@@ -1,7 +1,10 @@
 //! `fixed least`: finds the least format that holds each numeral of an input exactly.
 
+ghost use Rattle.std.specs.Prelude.{IfErr, IfOk};
 ghost use Rattle.command_line.specs.Words.{keyword_at};
 ghost use Rattle.fixed.specs.Lines.{IsLeastRadix};
+ghost use Rattle.fixed.specs.Tasks.{IsTaskByLayout};
+ghost use Rattle.fixed_command.specs.declared.task.Task.{Task};
 
 use crate::inputs::{Job, run_inputs};
 use crate::line_layout::layout_asked;
@@ -55,6 +58,19 @@ fn radix_and_files(given: &Given<'_, '_>) -> (Radix, usize)
     }
 }
 
+/// Returns the task for each input, by a rule.
+fn task_of<'a>(given: &Given<'_, 'a>, rule: LeastLines) -> Asked<'a, Task<'a>>
+    ensures value { IfOk result (λ task. IsTaskByLayout (Task.Least rule) (Task.LaidOutLeast rule) given.now task) }
+    ensures refused { IfErr result (λ _. (task : Task)
+        → ¬ IsTaskByLayout (Task.Least rule) (Task.LaidOutLeast rule) given.now task) }
+{
+    match layout_asked(given) {
+        Ok(None) => Ok(Task::Least(rule)),
+        Ok(Some(layout)) => Ok(Task::LaidOutLeast(rule, layout)),
+        Err(refusal) => Err(refusal),
+    }
+}
+
 /// Answers each file.
 pub fn run<'a, L: Ledger>(
     rt: &HostRuntime,
@@ -66,10 +82,8 @@ pub fn run<'a, L: Ledger>(
         radix,
         is_reason_asked: given.has(&WHY),
     };
-    let task = match layout_asked(given) {
-        Ok(None) => Task::Least(rule),
-        Ok(Some(layout)) => Task::LaidOutLeast(rule, layout),
-        Err(refusal) => return Err(refusal),
-    };
-    run_inputs(rt, &Job::Task(task), "", given, files, steps)
+    match task_of(given, rule) {
+        Ok(task) => run_inputs(rt, &Job::Task(task), "", given, files, steps),
+        Err(refusal) => Err(refusal),
+    }
 }

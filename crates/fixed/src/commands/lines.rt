@@ -1,5 +1,9 @@
 //! `fixed lines`: answers the lines of `fixed_tool`.
 
+ghost use Rattle.std.specs.Prelude.{IfErr, IfOk};
+ghost use Rattle.fixed.specs.Tasks.{IsTaskByLayout};
+ghost use Rattle.fixed_command.specs.declared.task.Task.{Task};
+
 use crate::inputs::{Job, run_inputs};
 use crate::line_layout::layout_asked;
 use crate::options::{COMMENTS, LIMIT, OUTPUT, SKIP_BLANK, TRIM};
@@ -23,16 +27,26 @@ pub fn page() -> Page {
     }
 }
 
+/// Returns the task for each input.
+fn task_of<'a>(given: &Given<'_, 'a>) -> Asked<'a, Task<'a>>
+    ensures value { IfOk result (λ task. IsTaskByLayout Task.Lines Task.LaidOutLines given.now task) }
+    ensures refused { IfErr result (λ _. (task : Task) → ¬ IsTaskByLayout Task.Lines Task.LaidOutLines given.now task) }
+{
+    match layout_asked(given) {
+        Ok(None) => Ok(Task::Lines),
+        Ok(Some(layout)) => Ok(Task::LaidOutLines(layout)),
+        Err(refusal) => Err(refusal),
+    }
+}
+
 /// Answers the lines of each file.
 pub fn run<'a, L: Ledger>(
     rt: &HostRuntime,
     given: &Given<'_, 'a>,
     steps: &mut Steps<L>,
 ) -> Asked<'a, Status> {
-    let task = match layout_asked(given) {
-        Ok(None) => Task::Lines,
-        Ok(Some(layout)) => Task::LaidOutLines(layout),
-        Err(refusal) => return Err(refusal),
-    };
-    run_inputs(rt, &Job::Task(task), "", given, 0, steps)
+    match task_of(given) {
+        Ok(task) => run_inputs(rt, &Job::Task(task), "", given, 0, steps),
+        Err(refusal) => Err(refusal),
+    }
 }

@@ -13,9 +13,9 @@ use crate::line_layout::{layout_asked, refuse_layout};
 use crate::options::{
     ENDIAN, LIMIT, MODE, OUTPUT, PACK_FROM, PASS_BLANK, PASS_COMMENTS, POLICY, RADIX, REPORT, TRIM,
 };
+use crate::reports::report_asked;
 use crate::settings::{
-    PackInput, endian_of, format_at, mode_of, pack_input_of, policy_of, radix_of, refuse_flag,
-    refuse_value,
+    PackInput, endian_of, format_at, mode_of, pack_input_of, policy_of, radix_of, refuse_value,
 };
 use command_line::device::{Failure, Output, Unmarked, Writer};
 use command_line::given::{Asked, Given};
@@ -26,7 +26,7 @@ use fixed_command::{ConvertRule, Layout, Limit, Spelling, without_return};
 use fixed_decimal::DecimalFormat;
 use fixed_float::FloatLayout;
 use fixed_io::{StdSink, StdSource};
-use fixed_numeral::{ParseFixedError, Radix};
+use fixed_numeral::ParseFixedError;
 use fixed_pack::{FloatWords, LaidOutPack, Pack, PackAmounts, PackBits, PackSettings, run_pack};
 use fixed_show::WordFault;
 use fixed_steps::Steps;
@@ -393,7 +393,7 @@ pub fn bits_of<'a>(given: &Given<'_, 'a>, format: Format) -> Asked<'a, PackBits>
         "means nothing: the bits of each word are in range",
     )?;
     refuse_value(given, &MODE, "rounds nothing: words of bits are exact")?;
-    refuse_flag(given, &REPORT, FOR_FLOATS)?;
+    refuse_value(given, &REPORT, FOR_FLOATS)?;
     Ok(PackBits {
         radix: radix_of(given)?,
         format,
@@ -403,7 +403,7 @@ pub fn bits_of<'a>(given: &Given<'_, 'a>, format: Format) -> Asked<'a, PackBits>
 
 /// Returns the job that packs numerals.
 fn numerals_job<'a>(given: &Given<'_, 'a>, format: Format) -> Asked<'a, Job<'a>> {
-    refuse_flag(given, &REPORT, FOR_FLOATS)?;
+    refuse_value(given, &REPORT, FOR_FLOATS)?;
     let settings = PackSettings {
         radix: radix_of(given)?,
         format,
@@ -431,6 +431,6 @@ fn floats_job<'a>(
             mode: mode_of(given)?,
             endian: endian_of(given)?,
         },
-        has_report: given.has(&REPORT),
+        report: report_asked(given),
     })
 }

@@ -1,8 +1,9 @@
 //! `fixed repack`: converts raw words to raw words of another format.
 
-use crate::commands::floats::{WordInput, recode_on, report_recoded};
+use crate::commands::floats::{Item, WordInput, recode_on, report_recoded};
 use crate::inputs::{Job, run_inputs};
 use crate::options::{ENDIAN, ENDIAN_OUT, LIMIT, OUTPUT, POLICY, REPORT, TARGET_MODE};
+use crate::reports::{ReportForm, report_asked};
 use crate::settings::{endian_of, endian_out_of, format_at, policy_of, target_mode_of};
 use command_line::device::Output;
 use command_line::given::{Asked, Given};
@@ -59,23 +60,23 @@ pub fn run_on<R: Read + Drop, L: Ledger>(
     rt: &HostRuntime,
     words: &Repack,
     limit: &Option<Limit>,
-    has_report: bool,
+    form: Option<ReportForm>,
     file: Option<&str>,
     reader: R,
     output: &mut Output,
     steps: &mut Steps<L>,
 ) -> Status {
     let input = WordInput {
-        name: "word",
+        item: Item::Word,
         file,
         limit,
     };
-    if !has_report {
+    let Some(form) = form else {
         return recode_on(rt, *words, (), &input, reader, output, steps).0;
-    }
+    };
     let report = WordReport::new(rt.alloc(), *words);
     let (status, report) = recode_on(rt, *words, report, &input, reader, output, steps);
-    report_recoded(rt, "word", file, status, &report, steps);
+    report_recoded(rt, form, &input, status, &report, steps);
     status
 }
 
@@ -103,7 +104,7 @@ pub fn run<'a, L: Ledger>(
             endian,
             endian_out: endian_out_of(given, endian)?,
         },
-        has_report: given.has(&REPORT),
+        report: report_asked(given),
     };
     run_inputs(rt, &job, "", given, 2, steps)
 }

@@ -1,12 +1,8 @@
-use Rattle.fixed.specs.Amounts.{AreUnitsAsked}
-use Rattle.fixed.specs.Questions.{IsBinaryWordAsked}
-use Rattle.fixed.proofs.QuestionLemmas.{amount_refused, binary_refused}
+use Rattle.std.proofs.Common.{false, subst, sym}
+use Rattle.fixed.specs.Questions.{IsBitsBy}
 use Rattle.fixed.proofs.commands.bits.question_of.Goals as goal
 
-pub returns-in-Err-clause-refused : goal.returns-in-Err-clause-refused
-returns-in-Err-clause-refused c q asked =
-    amount_refused c.args.given.now (AreUnitsAsked c.args.given.now) (IsBinaryWordAsked c.args.given.now) q c.in-Some.format c.in-Some.ensures c.in-Err.ensures.refused asked
-
-pub returns-in-Err-binary_question-clause-refused : goal.returns-in-Err-binary_question-clause-refused
-returns-in-Err-binary_question-clause-refused c q asked =
-    binary_refused c.args.given.now (AreUnitsAsked c.args.given.now) (IsBinaryWordAsked c.args.given.now) q c.in-None.ensures (c.in-Err-binary_question.ensures.refused q) asked
+pub returns-in-Err-format_question-clause-refused : goal.returns-in-Err-format_question-clause-refused
+returns-in-Err-format_question-clause-refused c = λ q place asked.
+    let by : IsBitsBy false c.args.given.now q place = subst (λ b. IsBitsBy b c.args.given.now q place) (sym c.if-has_fields.ensures) asked in
+    c.in-Err-format_question.ensures.refused q by.0

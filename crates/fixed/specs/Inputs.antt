@@ -1,0 +1,37 @@
+-- The run of a job over an input, from what its reader holds to what its writer contains.
+use Rattle.std.specs.Prelude.{◌≡◌, ℕ, List, Option, option_map}
+use Rattle.command_line.specs.Device.{strip_bom}
+use Rattle.fixed_command.specs.Limits.{limit_of}
+use Rattle.fixed_command.specs.Runs.{TaskRuns}
+use Rattle.fixed_command.specs.declared.task.Task.{Task}
+use Rattle.fixed_words.specs.Run.{HasWordsRun}
+use Rattle.fixed_words.specs.declared.rule.WordRule.{WordRule}
+use Rattle.line_engine.specs.Program.{Outside}
+use Rattle.line_engine.specs.declared.status.Status.{Status}
+use Rattle.line_engine.specs.declared.status.Status.TheVariants.{NoMemory}
+
+-- the run is over what a reader holds, without a byte order mark at its beginning, and writes to a writer that contains
+-- `old` before it and `new` after it; no device had failed before it
+pub record RunsBetween (Runs : Outside → Outside → Type 0) (held old new : Option (List ℕ)) : Type 0 where
+  pub before : Outside
+  pub after : Outside
+  pub runs : Runs before after
+  pub input : before.left ≡ option_map strip_bom held
+  pub from : before.written ≡ old
+  pub to : after.written ≡ new
+  pub no_read_failed : before.read_failures ≡ 0
+  pub no_write_failed : before.write_failures ≡ 0
+
+-- a task over an input within a limit
+abbrev pub TaskRunsBetween : Option ℕ → Task → Status → Option (List ℕ) → Option (List ℕ) → Option (List ℕ) → Type 0
+TaskRunsBetween limit task status = RunsBetween (λ before after. TaskRuns limit task before after status)
+
+-- a run over the words of an input; without memory nothing was read or written
+pub record RunsWords (limit : ℕ) (rule : WordRule) (status : Status) (before after : Outside) : Type 0 where
+  pub run : ¬ (status ≡ NoMemory) → HasWordsRun limit rule before after status
+  pub memory : status ≡ NoMemory → after ≡ before
+
+-- the words of an input within a limit
+abbrev pub WordsRunBetween : Option ℕ → WordRule → Status → Option (List ℕ) → Option (List ℕ) → Option (List ℕ)
+    → Type 0
+WordsRunBetween limit rule status = RunsBetween (RunsWords (limit_of limit) rule status)
