@@ -129,30 +129,20 @@ def floats(programs, inputs, tries):
 
 
 def paths(programs, inputs, tries):
-    """Processor time and instructions a line of further commands and options, beside plain `fixed convert`."""
-    fixed = programs.built("fixed")
+    """Processor time and instructions a line of further options, beside plain `fixed convert`."""
+    fixed, few, many = programs.built("fixed"), 500, 2_500
 
     def plain(count):
         return inputs.path("plain", "--lines", str(count))
 
-    def halves(count):
-        return inputs.of(f"halves-{count}", "".join(f"{at % 100}.5\n" for at in range(count)))
-
-    def hexadecimal(count):
-        pick = random.Random(2)
-        return inputs.of(f"hexadecimal-{count}", "".join(f"{pick.randrange(4096):x}.{pick.randrange(4096):x}\n" for _ in range(count)))
-
-    asked = [(["convert", "U16F16", *more], plain) for more in ([], *(["--print", part] for part in ("bits", "hex", "value")), ["--places", "2"], ["--report"])]
-    asked += [(["convert", "U16F16", "--radix", "16"], hexadecimal), (["show", "U16F16", "--file", "-"], plain),
-              (["fit", "--error", "0.001"], plain), (["fit", "--error", "0.25"], halves)]
-    took = in_turn([([fixed, *words], given(LINES // 10)) for words, given in asked], tries)
-    rows = []
-    for (words, given), seconds in zip(asked, took):
+    options = [[], ["--places", "2"], ["--words"], ["--print", "error"], ["--print", "ulps"]]
+    commands = [[fixed, "convert", "U16F16", *more] for more in options] + [[fixed, "fit", "--error", "0.001"]]
+    took, rows = in_turn([(command, plain(LINES // 10)) for command in commands], tries), []
+    for command, seconds in zip(commands, took):
         counted = ""
         if VALGRIND:
-            more, fewer = 2_500, 500
-            counted = f"{(instructions([fixed, *words], given(more)) - instructions([fixed, *words], given(fewer))) / (more - fewer):.0f}"
-        rows.append([" ".join(["fixed", *words]), f"{seconds / (LINES // 10) * 1e9:.0f}", f"{seconds / took[0]:.1f}", counted])
+            counted = f"{(instructions(command, plain(many)) - instructions(command, plain(few))) / (many - few):.0f}"
+        rows.append([" ".join(["fixed", *command[1:]]), f"{seconds / (LINES // 10) * 1e9:.0f}", f"{seconds / took[0]:.1f}", counted])
     table(rows, ["further paths", "ns a line", "of convert's", "instructions a line"])
 
 
@@ -164,7 +154,6 @@ def memory(programs, inputs):
         plain = given.readlines()
     numerals = [line.strip() for line in plain]
     asked = {
-        "convert": (["U16F16"], short, long),
         "lines": ([], inputs.of("lines", "".join(f"10 U16F16 U16F16 checked {it}\n" for it in numerals)),
                   inputs.of("long-lines", ("10 U16F16 U16F16 checked 0." + "1" * LONG_LINE + "\n") * LONG_LINES)),
         "enclose": ([], inputs.of("enclosed", "".join(f"10 U16F16 {it}\n" for it in numerals)),

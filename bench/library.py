@@ -26,13 +26,3 @@ def measure(programs, inputs, tries):
             rows.append([f"{form}, {'reading ' + str(digits) + ' digits' if call == 'read' else 'printing'}", *cells, *ratios])
     print("the library for C, 4,096 different numbers (C: strtod, %.17g)")
     table(rows, ["ns a call", "ours", "the crate's", "C's", "crate / ours", "C / ours"])
-    readers(ours, inputs, tries)
-
-
-def readers(ours, inputs, tries):
-    """The three calls that read a numeral of sixteen bytes."""
-    path, names = inputs.path("numerals", "--lines", str(INPUTS), "--format", "U16F16", "--digits", "11"), ("read", "literal", "scan")
-    times = in_turn([([ours, name, passes, "U16F16"], path) for name in names for passes in (str(PASSES), "0")], tries)
-    each = [(times[at] - times[at + 1]) / (PASSES * INPUTS) * 1e9 for at in range(0, len(times), 2)]
-    rows = [[name, f"{took:.1f}", f"{took / each[0]:.1f}"] for name, took in zip(("fixed_read_text", "fixed_read_literal", "fixed_scan_text"), each)]
-    table(rows, ["numerals of up to 16 bytes", "ns a call", "of fixed_read_text's"])

@@ -1,7 +1,7 @@
 #!/usr/bin/env python3
 """Measures the programs and single calls of the library.
 
-    measure.py [lines] [calls] [further] [library] [command] [column] [processors] [python] [--tries 9] [--peer PROGRAM]
+    measure.py [lines] [calls] [further] [library] [command] [asked] [processors] [python] [--tries 9] [--peer PROGRAM]
 
 Contenders run in turn, and each figure is the least processor time of several runs, so that a busy machine disturbs them
 alike. Instructions are counted by callgrind, where valgrind is installed, as the difference of two runs.
@@ -24,8 +24,8 @@ import types
 HERE = os.path.dirname(os.path.abspath(__file__))
 sys.path.insert(0, HERE)
 
+import asked  # noqa: E402
 import calls  # noqa: E402
-import column  # noqa: E402
 import command  # noqa: E402
 import further  # noqa: E402
 import library  # noqa: E402
@@ -35,7 +35,7 @@ import python  # noqa: E402
 from inputs import Inputs  # noqa: E402
 from timing import VALGRIND  # noqa: E402
 
-SUBJECTS = {"lines": lines, "calls": calls, "further": further, "library": library, "command": command, "column": column}
+SUBJECTS = {"lines": lines, "calls": calls, "further": further, "library": library, "command": command, "asked": asked}
 SUBJECTS |= {"processors": processors, "python": python}
 
 

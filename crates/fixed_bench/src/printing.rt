@@ -89,6 +89,8 @@ pub fn write_as<L: Ledger>(
 }
 
 /// Returns the sum of the lengths and of the last bytes of the shortest texts, written in place.
+// It is not inlined, so that the registers of its loop do not depend on the other calls.
+#[inline(never)]
 pub fn append_as<L: Ledger>(
     format: &str,
     all: &[SignedBits],
@@ -109,6 +111,8 @@ pub fn append_as<L: Ledger>(
 }
 
 /// Returns the sum of the lengths and of the last bytes of the texts to a count of places, written in place.
+// It is not inlined, as `append_as` is not.
+#[inline(never)]
 pub fn places_as(format: &str, all: &[SignedBits], places: u32, times: u32) -> i128 {
     let frac = frac_of(format);
     let mut out: TextBuffer<256> = TextBuffer::new();
