@@ -39,7 +39,3 @@ pub so_far_within : (limit taken : ℕ) (old now : Option Asked) → AskedSoFar 
 so_far_within limit taken None now is = is
 so_far_within limit taken (Some old) None is = is
 so_far_within limit taken (Some old) (Some now) is = is.within
-
--- a run without a read requests nothing
-pub within_none : (limit : ℕ) (asked : Option Asked) → AskedWithin limit asked asked
-within_none limit asked = so_far_within limit 0 asked asked (so_far_none limit asked)

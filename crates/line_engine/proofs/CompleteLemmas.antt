@@ -36,17 +36,6 @@ module _ (A : List ℕ → AnswerText → Type 0) (limit : ℕ) (left left' writ
       let few : length run.bytes ≤ length input = few_taken left left' run.bytes input is run.taken in
       absurd (omega (arith, run.past))
 
-  -- a run over a longer input ends with TooLong or NoMemory
-  pub complete_long : (read read' write write' : ℕ) (status : Status) → HasRun A limit left left' written written' status → HasFailures read read' write write' status
-      → limit < length input → (HasFailed read read' → ⊥) → (HasFailed write write' → ⊥) → (status ≡ NoMemory) ⊎ (status ≡ TooLong)
-  complete_long read read' write write' Done run cause past no_read no_write = absurd (omega (arith, run.within, ap length (all_taken left left' run.input input is run.taken run.at_end)))
-  complete_long read read' write write' Faults run cause past no_read no_write = absurd (omega (arith, run.within, ap length (all_taken left left' run.input input is run.taken run.at_end)))
-  complete_long read read' write write' Usage run cause past no_read no_write = absurd run
-  complete_long read read' write write' ReadFault run cause past no_read no_write = absurd (no_read cause.0)
-  complete_long read read' write write' WriteFault run cause past no_read no_write = absurd (no_write cause.1)
-  complete_long read read' write write' NoMemory run cause past no_read no_write = inl refl
-  complete_long read read' write write' TooLong run cause past no_read no_write = inr refl
-
 -- replies to the first lines are the first replies
 same_prefix : (A : List ℕ → AnswerText → Type 0) (one : (line : List ℕ) (a b : AnswerText) → A line a → A line b → a ≡ b) (some more : List (List ℕ)) (first replies : List AnswerText)
     → AreAnswers A some first → AreAnswers A (some ++ more) replies → (tail : List AnswerText) × (replies ≡ first ++ tail)

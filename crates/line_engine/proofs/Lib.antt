@@ -5,11 +5,10 @@ mod AnsweredLemmas
 mod AskedLemmas
 mod ChunkLemmas
 mod CompleteLemmas
-mod FedLemmas
 mod FirstLineLemmas
 mod LineLawLemmas
 mod LineLemmas
 mod PrefixLemmas
+mod RefusalLemmas
 mod RunLawLemmas
-mod RunLemmas
 mod TakenLemmas

@@ -4,7 +4,7 @@ use Rattle.line_engine.specs.AnswerText.{AnswerText}
 use Rattle.line_engine.specs.Failures.{HasFailed}
 use Rattle.line_engine.specs.Lines.{ended_lines, unended}
 use Rattle.line_engine.specs.Output.{AreAnswers, any_fault, written_of}
-use Rattle.line_engine.specs.RunLaws.{OutputIsTheOne, WholeOutputIsTheOne}
+use Rattle.line_engine.specs.RunLaws.{OutputIsTheOne, RunEndIsTheOne, WholeOutputIsTheOne}
 use Rattle.line_engine.proofs.AnsweredLemmas
 use Rattle.line_engine.proofs.LineLemmas
 use Rattle.line_engine.proofs.RunLawLemmas
@@ -36,6 +36,7 @@ pub use Rattle.line_engine.proofs.LineLemmas.{
   unended_other,
 }
 pub use Rattle.line_engine.proofs.PrefixLemmas.{part_first}
+pub use Rattle.line_engine.proofs.RefusalLemmas.{product_one}
 pub use Rattle.line_engine.proofs.TakenLemmas.{Consumes-kept, Consumes-none, all_taken, few_taken}
 
 -- ---- answers to some lines, and to the lines after them
@@ -55,6 +56,10 @@ answers_one = RunLawLemmas.answers_one
 -- their input then has one output and one status
 pub output_one : (A : List ℕ → AnswerText → Type 0) → ((line : List ℕ) (a b : AnswerText) → A line a → A line b → a ≡ b) → OutputIsTheOne A
 output_one = RunLawLemmas.output_one
+
+-- and a run over the lines one end
+pub run_end_one : (A : List ℕ → AnswerText → Type 0) → ((line : List ℕ) (a b : AnswerText) → A line a → A line b → a ≡ b) → RunEndIsTheOne A
+run_end_one = RunLawLemmas.run_end_one
 
 pub whole_output_one : (A : List ℕ → AnswerText → Type 0) → ((input : List ℕ) (a b : AnswerText) → A input a → A input b → a ≡ b) → WholeOutputIsTheOne A
 whole_output_one = RunLawLemmas.whole_output_one

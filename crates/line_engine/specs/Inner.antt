@@ -1,2 +1,3 @@
 -- Contracts of private functions: progress between two chunks of an input.
 pub mod Progress
+pub mod Whole

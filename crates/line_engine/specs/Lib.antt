@@ -9,6 +9,7 @@ pub mod Lines
 pub mod Memory
 pub mod Output
 pub mod Program
+pub mod Refusals
 pub mod Run
 pub mod RunLaws
 pub mod Status

@@ -1,11 +1,15 @@
 -- What a run over a whole input leaves.
-use Rattle.std.specs.Prelude.{◌≡◌, ◌+◌, ◌≤◌, ◌⊎◌, ℕ, Bool, true, false, List, length}
+use Rattle.std.specs.Prelude.{◌≡◌, ◌+◌, ◌≤◌, ◌<◌, ◌⊎◌, ℕ, Bool, true, false, List, Some, length}
 use Rattle.std.specs.declared.option.Option.{Option}
 use Rattle.std.specs.Io.KnownBytes.{Appends, Consumes, IsAtEnd}
 use Rattle.line_engine.specs.AnswerText.{AnswerText}
+use Rattle.line_engine.specs.Asked.{AskedWithin}
+use Rattle.line_engine.specs.Failures.{HasFailed}
 use Rattle.line_engine.specs.Filled.{TakesWithin}
 use Rattle.line_engine.specs.Appended.{AppendsPrefix}
 use Rattle.line_engine.specs.Output.{status_of}
+use Rattle.line_engine.specs.Program.{Outside}
+use Rattle.line_engine.specs.Run.{HasFailures}
 use Rattle.line_engine.specs.declared.status.Status.{Status}
 use Rattle.line_engine.specs.declared.status.Status.TheVariants.{Done, Faults, Usage, ReadFault, WriteFault, NoMemory}
 use Rattle.line_engine.specs.declared.status.Status.TheVariants.{TooLong}
@@ -68,3 +72,27 @@ pub record WritesAnswer (A : List ℕ → AnswerText → Type 0)
   pub answer : A input text
   pub output : Appends written written' text.text
   pub faulty : status ≡ status_of text.fault
+
+-- no read and no write failed
+abbrev pub Undisturbed : Outside → Outside → Type 0
+Undisturbed before after = (¬ HasFailed before.read_failures after.read_failures)
+    × (¬ HasFailed before.write_failures after.write_failures)
+
+-- a run over a whole input, by the meaning `A` of its answer
+pub record IsWholeRun (A : List ℕ → AnswerText → Type 0) (limit : ℕ) (before after : Outside)
+    (status : Status) : Type 0 where
+  -- the answer to an input within the limit is written, or memory ran out
+  pub output : (input : List ℕ) → before.left ≡ Some input → length input ≤ limit → Undisturbed before after
+      → (status ≡ NoMemory) ⊎ WritesAnswer A input before.written after.written status
+  -- a longer input is reported, or memory ran out
+  pub too_long : (input : List ℕ) → before.left ≡ Some input → limit < length input → Undisturbed before after
+      → (status ≡ NoMemory) ⊎ (status ≡ TooLong)
+  -- what was taken and what was written, by status
+  pub run : HasWholeRun A limit before.left after.left before.written after.written status
+  -- a prefix of the answer, if a write failed
+  pub prefix_on_write_fault : status ≡ WriteFault → (input : List ℕ) (answer : AnswerText) → before.left ≡ Some input
+      → A input answer → AppendsPrefix before.written after.written answer.text
+  -- what reads requested of the source
+  pub asked : AskedWithin limit before.asked after.asked
+  -- which count of failures rose, by status
+  pub failures : HasFailures before.read_failures after.read_failures before.write_failures after.write_failures status

@@ -9,14 +9,12 @@ ghost use Rattle.line_engine.specs.LineLaws.{
 };
 ghost use Rattle.line_engine.specs.RunLaws.{
   FillIsTheOne,
-  OutputIsTheOne,
-  RunEndIsTheOne,
   TextEndIsTheOne,
   WholeOutputIsTheOne,
   WholeRunEndIsTheOne,
 };
 
-use crate::{LineRule, WholeRule};
+use crate::WholeRule;
 use std::sync::ledger::Ledger;
 
 /// The ended lines, each followed by a newline, and the bytes after the last newline make up the input.
@@ -45,19 +43,9 @@ pub fn last_line_needs_no_newline()
     ensures { LastLineNeedsNoNewline }
 {}
 
-/// With a rule over lines, an input has at most one output, and its run at most one status.
-pub fn output_is_the_one<R: LineRule<L>, L: Ledger>(_rule: &R)
-    ensures { OutputIsTheOne (R.Answers _rule.now) }
-{}
-
 /// With a rule over whole inputs, an input has at most one output, and its run at most one status.
 pub fn whole_output_is_the_one<R: WholeRule<L>, L: Ledger>(_rule: &R)
     ensures { WholeOutputIsTheOne (R.Answers _rule.now) }
-{}
-
-/// The bytes read and the counts of failures determine how a run over lines ended, if it found memory.
-pub fn run_end_is_the_one<R: LineRule<L>, L: Ledger>(_rule: &R)
-    ensures { RunEndIsTheOne (R.Answers _rule.now) }
 {}
 
 /// The bytes read and the counts of failures determine how a run over a whole input ended, if it found memory.

@@ -2,50 +2,36 @@
 
 ghost use Rattle.std.specs.Prelude.{◌≡◌, ◌≤◌, ℕ, List, length, IfOk};
 ghost use Rattle.line_engine.specs.AnswerText.{AnswerText};
+ghost use Rattle.line_engine.specs.Refusals.{refusal_reply, reply_of};
 
 use crate::NoMemory;
-use crate::chunk::MAX_LIMIT;
 use fixed_steps::Steps;
 use std::alloc::Global;
-use std::marker::Model;
 use std::sync::ledger::Ledger;
 
-/// The answer to a whole input: all the bytes to write, and whether they contain a fault.
+/// The answer to a whole input.
 #[derive(Drop)]
-pub struct WholeAnswer {
-    text: Vec<u8>,
-    is_fault: bool,
-}
-
-impl Model for WholeAnswer {
-    ghost use Rattle.line_engine.specs.AnswerText.{AnswerText};
-
-    ghost Value = { AnswerText };
-
-    ghost view = { λ a. record { text = a.text.items; fault = a.is_fault } };
+pub enum WholeAnswer {
+    /// All the bytes to write.
+    Text(Vec<u8>),
+    /// The input is refused: `error: line N: ` and the cause.
+    Refused {
+        /// The number of the line for which it is refused, from 1.
+        number: u64,
+        /// The cause.
+        cause: Vec<u8>,
+    },
 }
 
 impl WholeAnswer {
-    /// Makes an answer of these bytes, with whether they contain a fault.
-    pub fn new(text: Vec<u8>, is_fault: bool) -> WholeAnswer
-        ensures text { result.text ≡ text.items }
-        ensures fault { result.fault ≡ is_fault }
+    /// Returns the refusal of an input for the line of this number.
+    pub fn refused(alloc: Global, number: u64, cause: &[u8]) -> Result<WholeAnswer, NoMemory>
+        ensures { IfOk result (λ answer. reply_of answer ≡ refusal_reply number cause.now) }
     {
-        WholeAnswer { text, is_fault }
-    }
-
-    /// Returns the bytes.
-    pub fn as_bytes(&self) -> &[u8]
-        ensures { result.now ≡ self.now.text }
-    {
-        self.text.as_slice()
-    }
-
-    /// Whether the bytes contain a fault.
-    pub fn is_fault(&self) -> bool
-        ensures { result ≡ self.now.fault }
-    {
-        self.is_fault
+        match cause.to_vec(alloc) {
+            Ok(cause) => Ok(WholeAnswer::Refused { number, cause }),
+            Err(_) => Err(NoMemory),
+        }
     }
 }
 
@@ -62,7 +48,7 @@ pub trait WholeRule<L: Ledger> {
         steps: &mut Steps<L>,
     ) -> Result<WholeAnswer, NoMemory>
         requires { length input.now ≤ 4294967296 }
-        ensures { IfOk result (λ answer. Answers self.now input.now answer) };
+        ensures { IfOk result (λ answer. Answers self.now input.now (reply_of answer)) };
 
     /// An input has at most one answer.
     ghost one_law: { (rule : Self) (input : List ℕ) (a b : AnswerText) → Answers rule input a → Answers rule input b

@@ -6,6 +6,7 @@ mod LineRunLemmas
 mod LineStatusLemmas
 mod LinesRunLemmas
 mod MachineLemmas
+mod PartLemmas
 mod PieceLemmas
 mod PutLemmas
 mod RefusedLemmas

@@ -3,8 +3,8 @@
 ghost use Rattle.std.specs.Prelude.{◌≡◌, ◌==◌, ◌<◌, ◌≤◌, get_or};
 
 use column_engine::{
-    Column, ColumnEnd, ColumnTask, ColumnWatch, Destination, FieldRule, Keeping, Range,
-    RecordBuffer, Stop, run_column,
+    Column, ColumnEnd, ColumnTask, Destination, FieldPlace, FieldRule, FirstRefused, Keeping,
+    Range, RecordBuffer, Stop, run_column,
 };
 use fixed_steps::Steps;
 use line_engine::{MemorySink, MemorySource, NEVER, Output};
@@ -93,14 +93,15 @@ fn destination_of(case: &Case) -> Destination {
     }
 }
 
-/// Runs a case over these bytes, in place of its own input. Returns how the run ends and what it writes.
+/// Runs a case over these bytes, in place of its own input. Returns how the run ends, what it writes, and the first
+/// refused field.
 fn run_case<L: Ledger>(
     alloc: Global,
     case: &Case,
     input: Vec<u8>,
     most: usize,
     blank: Blank,
-) -> Result<(ColumnEnd, Vec<u8>), AllocError>
+) -> Result<(ColumnEnd, Vec<u8>, FirstRefused), AllocError>
     requires name { blank.name ≡ L.name }
     requires parts { blank.parts ≡ L.parts }
     requires some { 0 < blank.parts }
@@ -119,7 +120,6 @@ fn run_case<L: Ledger>(
             quotes: case.has_quotes,
         },
         delimiter: case.delimiter,
-        watch: &ColumnWatch::new(1),
     };
     let most = most.max(1);
     let room = 4_096;
@@ -129,15 +129,16 @@ fn run_case<L: Ledger>(
         most,
         vec![in alloc; case.failing_write]?,
     );
-    let end = run_column(alloc, &task, &mut source, &mut sink, &mut steps);
-    Ok((end, sink.written().to_vec(alloc)?))
+    let first = FirstRefused::new();
+    let run = run_column(alloc, &task, first, &mut source, &mut sink, &mut steps);
+    Ok((run.end, sink.written().to_vec(alloc)?, run.records.observer))
 }
 
 /// Asserts what a run writes and how it ends, however many bytes move at a time.
 fn assert_runs(rt: &impl Abort, alloc: Global, cases: &[Case]) -> Result<(), AllocError> {
     for case in cases {
         for most in &[1, 2, 3, 5, 4096] {
-            let (end, written) = run_case::<Brand>(
+            let (end, written, _first) = run_case::<Brand>(
                 alloc,
                 case,
                 case.input.to_vec(alloc)?,
@@ -363,6 +364,31 @@ fn refused_fields_are_counted_and_kept_where_that_is_asked(rt: HostRuntime) -> R
 }
 
 #[test]
+fn the_first_refused_field_is_kept_with_its_place(rt: HostRuntime) -> Result<(), Fail> {
+    let input: &[u8] = b"a,b\r\n\"c\nd\",1\n\nx,\"x\"\"\"\ny,xx\n";
+    let case = second(input, b"", 0);
+    for most in &[1, 2, 3, 5, 4096] {
+        let (_end, _written, first) = run_case::<Brand>(
+            rt.alloc(),
+            &case,
+            input.to_vec(rt.alloc())?,
+            *most,
+            Blank::new(1),
+        )?;
+        let field = first.field.expect(&rt, "no field is refused");
+        let place = FieldPlace {
+            record: 3,
+            line: 5,
+            column: 1,
+        };
+        assert_eq!(rt; field.place, place);
+        assert_eq!(rt; field.text.as_bytes(), b"x\"".as_slice());
+        assert_eq!(rt; field.reply.as_bytes(), b"not, so".as_slice());
+    }
+    Ok(())
+}
+
+#[test]
 fn answers_to_fields_in_quotes_stay_in_quotes_where_that_is_asked(
     rt: HostRuntime,
 ) -> Result<(), Fail> {
@@ -480,7 +506,7 @@ fn each_read_fails_in_turn(rt: HostRuntime) -> Result<(), Fail> {
             ..second(INPUT, b"", 0)
         };
         let input = INPUT.to_vec(rt.alloc())?;
-        let (end, written) = run_case::<Brand>(rt.alloc(), &case, input, 1, Blank::new(1))?;
+        let (end, written, _first) = run_case::<Brand>(rt.alloc(), &case, input, 1, Blank::new(1))?;
         assert_eq!(rt; end, ended(Stop::ReadFault, answered), "at {call}");
         assert_eq!(rt; written.as_slice(), output, "at {call}");
     }
@@ -509,7 +535,7 @@ fn each_write_fails_in_turn(rt: HostRuntime) -> Result<(), Fail> {
             ..plain
         };
         let input = INPUT.to_vec(rt.alloc())?;
-        let (end, written) = run_case::<Brand>(rt.alloc(), &case, input, 1, Blank::new(1))?;
+        let (end, written, _first) = run_case::<Brand>(rt.alloc(), &case, input, 1, Blank::new(1))?;
         assert_eq!(rt; end.stop, Stop::WriteFault, "at {at}");
         let wanted = output.get(..call).unwrap_or(&[]);
         assert_eq!(rt; written.as_slice(), wanted, "at {at}");

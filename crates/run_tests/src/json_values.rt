@@ -34,7 +34,7 @@ fn run_case<L: Ledger>(
     case: &Case,
     most: usize,
     blank: Blank,
-) -> Result<(JsonEnd, Vec<u8>), AllocError>
+) -> Result<(JsonEnd<()>, Vec<u8>), AllocError>
     requires name { blank.name ≡ L.name }
     requires parts { blank.parts ≡ L.parts }
     requires some { 0 < blank.parts }
@@ -69,7 +69,7 @@ fn run_case<L: Ledger>(
         most,
         vec![in alloc; case.failing_write]?,
     );
-    let end = run_json(alloc, &None, &task, &mut source, &mut sink, &mut steps);
+    let end = run_json(alloc, &None, &task, (), &mut source, &mut sink, &mut steps);
     Ok((end, sink.written().to_vec(alloc)?))
 }
 
