@@ -3,13 +3,15 @@
 //! So the text of an input can neither move a terminal's cursor nor break a message. The byte that makes a numeral
 //! invalid is one byte, so it is shown by its digits even if it is part of a longer character.
 
-ghost use Rattle.std.specs.Prelude.{◌≡◌, ◌<◌, ℕ, decimal, drop, max, option_map, take};
-ghost use Rattle.command_line.specs.Said.{IsBegun, IsFirstPart, IsWidth, Shows, first_line, hex_digit, pushed, shown};
+ghost use Rattle.std.specs.Prelude.{◌≡◌, ℕ, decimal, drop, max, option_map, take};
+ghost use Rattle.command_line.specs.Said.{IsBegun, IsFirstPart, IsWidth, Shows, first_line, pushed, shown};
 
 use crate::device::Failure;
 use fixed_io::StdSink;
 use itoa::Buffer;
 use line_engine::{Status, write_text};
+use line_rejects::first_shown;
+pub use line_rejects::{character_width, hex_digit};
 use memchr::memchr;
 use std::alloc::Global;
 use std::io::{Error, ErrorKind};
@@ -25,34 +27,6 @@ fn first_part(name: &str) -> &str
         }
     }
     name
-}
-
-/// Returns a number below 16 as a hexadecimal digit.
-pub fn hex_digit(number: u8) -> u8
-    ensures { number < 16 → result ≡ hex_digit number }
-{
-    if number < 10 {
-        b'0' + number
-    } else {
-        b'a' + (number.min(15) - 10)
-    }
-}
-
-/// Returns the length of the UTF-8 character that `bytes` begins with, or 0 if it does not begin with one.
-pub(crate) fn character_width(bytes: &[u8]) -> usize
-    ensures { IsWidth bytes.now result }
-{
-    let width = match bytes {
-        [0..=0x7f, ..] => 1,
-        [0xc0..=0xdf, ..] => 2,
-        [0xe0..=0xef, ..] => 3,
-        [0xf0..=0xff, ..] => 4,
-        _ => 0,
-    };
-    match bytes.get(..width) {
-        Some(first) if str::from_utf8(first).is_ok() => width,
-        _ => 0,
-    }
 }
 
 /// A line for standard error.
@@ -93,16 +67,8 @@ impl Report {
         ensures { (width : ℕ) × IsWidth bytes.now width × (result.now ≡ drop (max width 1) bytes.now)
             × (self.new.line ≡ pushed self.old.line (shown width (take (max width 1) bytes.now))) }
     {
-        let width = character_width(bytes);
-        let (first, rest) = bytes.split_at(width.max(1).min(bytes.len()));
-        match first {
-            [byte] if width == 0 => {
-                self.push(&[b'\\', b'x', hex_digit(byte / 16), hex_digit(byte % 16)]);
-            }
-            [byte] if byte.is_ascii_control() => self.push(b"?"),
-            [0xc2, 0x80..=0x9f] => self.push(b"?"),
-            _ => self.push(first),
-        }
+        let (first, rest) = first_shown(bytes);
+        self.push(first.as_bytes());
         rest
     }
 
