@@ -345,13 +345,13 @@ pub last_count : (all some : List (List ℕ)) (raw : List ℕ) (count : ℕ) →
 last_count all some raw count cut is = omega (arith, ap length cut, length-append some (raw ∷ []), is)
 
 -- `only column` requests this column and no other
-only_it : (column : ℕ) → is_asked (only column) column ≡ true
+pub only_it : (column : ℕ) → is_asked (only column) column ≡ true
 only_it column = grind (arith, nat_tests)
 
-only_below : (column k : ℕ) → k < column → is_asked (only column) k ≡ false
+pub only_below : (column k : ℕ) → k < column → is_asked (only column) k ≡ false
 only_below column k low = grind (arith, nat_tests)
 
-only_above : (column k : ℕ) → column < k → is_asked (only column) k ≡ false
+pub only_above : (column k : ℕ) → column < k → is_asked (only column) k ≡ false
 only_above column k high = grind (arith, nat_tests)
 
 refused_around : (some more : List (List ℕ)) (answer : FieldAnswer)

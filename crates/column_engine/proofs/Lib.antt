@@ -11,3 +11,4 @@ mod UniqueLemmas
 mod EndLemmas
 mod AfterLemmas
 mod SkipLemmas
+mod SeenLemmas

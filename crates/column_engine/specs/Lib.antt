@@ -6,6 +6,8 @@ pub mod Gathered
 pub mod Steps
 pub mod Feeding
 pub mod Begin
+pub mod First
+pub mod Seen
 pub mod Run
 pub mod Skip
 pub mod Passing

@@ -1,17 +1,19 @@
 //! The answer to a field.
 
-ghost use Rattle.std.specs.Prelude.{◌≡◌, ◌==◌, ◌≤◌, List, ℕ, if◌then◌else◌, true, get_or, length};
+ghost use Rattle.std.specs.Prelude.{◌≡◌, ◌==◌, ◌≤◌, [], List, ℕ, if◌then◌else◌, true, get_or, length};
 ghost use Rattle.column_engine.specs.Answers.{IsAnswer, as_field, in_quotes, keeps_quotes, stays};
 ghost use Rattle.column_engine.specs.Gathered.{shown_bytes};
 ghost use Rattle.column_engine.specs.Rows.{content};
+ghost use Rattle.column_engine.specs.Seen.{OnlySaw, SeesField, place_in};
 ghost use Rattle.column_engine.specs.Limits.{longest_record};
 
 use crate::columns::{Column, Destination, Keeping};
 use crate::field::{calls_for_quotes, plain_content, write_content, write_in_quotes};
 use crate::place::Place;
 use crate::record_buffer::RecordBuffer;
+use crate::records::Records;
 use crate::rule::FieldRule;
-use crate::watch::ColumnWatch;
+use crate::watch::{FieldPlace, FieldWatch};
 use fixed_steps::Steps;
 use line_engine::Output;
 use std::sync::ledger::Ledger;
@@ -33,13 +35,11 @@ pub struct ColumnTask<'a, A> {
     pub keeps: Keeping,
     /// The byte between fields: an ASCII character other than a quote, a line feed or a carriage return.
     pub delimiter: u8,
-    /// What is kept for reports.
-    pub watch: &'a ColumnWatch,
 }
 
-/// Buffers for the answer to a field, and the gathered output.
+/// Buffers for the answer to a field, the gathered output, and the records up to the current one.
 #[derive(Drop)]
-pub(crate) struct Work {
+pub(crate) struct Work<W> {
     /// The text of a field, and then the bytes to write for it.
     pub text: RecordBuffer,
     /// Scratch bytes for the rule.
@@ -48,13 +48,39 @@ pub(crate) struct Work {
     pub reply: Output,
     /// Bytes that are not yet written.
     pub out: Output,
+    /// The records up to the current one, and the observer of their fields.
+    pub records: Records<W>,
+}
+
+/// Answers a text by the rule, and tells the observer. Returns whether the field was refused.
+#[inline(always)]
+fn answer_text<A: FieldRule<L>, W: FieldWatch<A, L>, L: Ledger>(
+    rule: &A,
+    place: FieldPlace,
+    text: &[u8],
+    scratch: &mut RecordBuffer,
+    reply: &mut Output,
+    observer: &mut W,
+    steps: &mut Steps<L>,
+) -> bool
+    requires short { length text.now ≤ longest_record }
+    requires empty { reply.old ≡ [] }
+    ensures reply { A.Answers rule.now text.now (record { text = reply.new; fault = result }) }
+    ensures saw { W.Saw rule.now observer.old place text.now (record { text = reply.new; fault = result })
+        observer.new }
+{
+    let is_refused = rule.answer(text, scratch, reply, steps);
+    let bytes = reply.as_bytes();
+    observer.see(rule, place, text, bytes, is_refused, scratch, steps);
+    is_refused
 }
 
 /// Answers the text of a field by the rule. Returns whether the field was refused.
-fn reply_to<A: FieldRule<L>, L: Ledger>(
+fn reply_to<A: FieldRule<L>, W: FieldWatch<A, L>, L: Ledger>(
     rule: &A,
+    column: usize,
     raw: &[u8],
-    work: &mut Work,
+    work: &mut Work<W>,
     steps: &mut Steps<L>,
 ) -> bool
     requires { length raw.now ≤ longest_record }
@@ -62,28 +88,34 @@ fn reply_to<A: FieldRule<L>, L: Ledger>(
       text = work.new.reply;
       fault = result;
     }) }
+    ensures saw { OnlySaw (SeesField (A.Answers rule.now) (W.Saw rule.now) (place_in work.old.records column) raw.now)
+        work.old.records work.new.records }
     ensures out { work.new.out ≡ work.old.out }
 {
     work.reply.clear();
+    let place = work.records.place(column);
     match plain_content(raw) {
-        Some(text) => rule.answer(text, &mut work.scratch, &mut work.reply, steps),
+        Some(text) => answer_text(
+            rule,
+            place,
+            text,
+            &mut work.scratch,
+            &mut work.reply,
+            &mut work.records.observer,
+            steps,
+        ),
         None => {
             write_content(raw, &mut work.text);
-            rule.answer(
+            answer_text(
+                rule,
+                place,
                 work.text.as_slice(),
                 &mut work.scratch,
                 &mut work.reply,
+                &mut work.records.observer,
                 steps,
             )
         }
-    }
-}
-
-/// Keeps a field that was just refused, for reports.
-fn watch_refusal(watch: &ColumnWatch, column: usize, raw: &[u8], work: &Work) {
-    match plain_content(raw) {
-        Some(text) => watch.refuse(column, text, work.reply.as_bytes()),
-        None => watch.refuse(column, work.text.as_slice(), work.reply.as_bytes()),
     }
 }
 
@@ -166,11 +198,11 @@ fn show(
 
 /// Answers a requested field.
 #[inline(always)]
-pub(crate) fn answer_asked<A: FieldRule<L>, L: Ledger>(
+pub(crate) fn answer_asked<A: FieldRule<L>, W: FieldWatch<A, L>, L: Ledger>(
     task: &ColumnTask<'_, A>,
     column: usize,
     raw: &[u8],
-    work: &mut Work,
+    work: &mut Work<W>,
     steps: &mut Steps<L>,
 ) -> Answered
     requires { length raw.now ≤ longest_record }
@@ -178,13 +210,11 @@ pub(crate) fn answer_asked<A: FieldRule<L>, L: Ledger>(
       text = shown_bytes result.shown raw.now work.new.reply work.new.text;
       refused = result.is_refused;
     }) }
+    ensures saw { OnlySaw (SeesField (A.Answers task.now.rule.now) (W.Saw task.now.rule.now)
+        (place_in work.old.records column) raw.now) work.old.records work.new.records }
     ensures out { work.new.out ≡ work.old.out }
 {
-    task.watch.begin_field(column);
-    let is_refused = reply_to(task.rule, raw, work, steps);
-    if is_refused {
-        watch_refusal(task.watch, column, raw, work);
-    }
+    let is_refused = reply_to(task.rule, column, raw, work, steps);
     let is_same = stays(task.keeps, is_refused, work.reply.as_bytes());
     let has_quotes = keeps_quotes(task.keeps, raw, is_refused);
     let shown = show(

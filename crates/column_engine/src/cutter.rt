@@ -11,6 +11,7 @@ use crate::place::{Place, record_end};
 use crate::record_buffer::{MAX_RECORD, RecordBuffer};
 use crate::row::{Progress, answer_row};
 use crate::rule::FieldRule;
+use crate::watch::FieldWatch;
 use fixed_steps::Steps;
 use line_engine::Sink;
 use std::sync::ledger::Ledger;
@@ -27,13 +28,13 @@ pub(crate) struct Cutter<'a> {
 }
 
 /// Answers the current record, which ends with `part` and the byte `end`. A plain part has no newline.
-fn end_row<A: FieldRule<L>, K: Sink, L: Ledger>(
+fn end_row<A: FieldRule<L>, W: FieldWatch<A, L>, K: Sink, L: Ledger>(
     task: &ColumnTask<'_, A>,
     cutter: &mut Cutter<'_>,
     is_plain: bool,
     part: &[u8],
     end: &[u8],
-    work: &mut Work,
+    work: &mut Work<W>,
     sink: &mut K,
     steps: &mut Steps<L>,
 ) -> Result<(), Stop>
@@ -56,11 +57,11 @@ fn end_row<A: FieldRule<L>, K: Sink, L: Ledger>(
 {
     cutter.place = Place::Start;
     if cutter.kept.is_empty() {
-        task.watch.begin_row(part, end, is_plain);
+        work.records.begin_row(part, end, is_plain);
         return answer_row(task, &mut cutter.progress, part, end, work, sink, steps);
     }
     cutter.kept.append(part);
-    task.watch.begin_kept(&cutter.kept, end);
+    work.records.begin_row(cutter.kept.as_slice(), end, false);
     answer_row(
         task,
         &mut cutter.progress,
@@ -75,11 +76,11 @@ fn end_row<A: FieldRule<L>, K: Sink, L: Ledger>(
 }
 
 /// Answers the records that end in a chunk, and keeps the bytes after the last of them.
-pub(crate) fn feed<A: FieldRule<L>, K: Sink, L: Ledger>(
+pub(crate) fn feed<A: FieldRule<L>, W: FieldWatch<A, L>, K: Sink, L: Ledger>(
     task: &ColumnTask<'_, A>,
     cutter: &mut Cutter<'_>,
     chunk: &[u8],
-    work: &mut Work,
+    work: &mut Work<W>,
     sink: &mut K,
     steps: &mut Steps<L>,
 ) -> Result<(), Stop>

@@ -1,12 +1,13 @@
 //! The answers to the fields of a record, and the bytes between them.
 
-ghost use Rattle.std.specs.Prelude.{◌≡◌, ◌≤◌, ◌<◌, ◌-◌, ◌^◌, List, ℕ, Bool, false, if◌then◌else◌, IfOk, OnErr, drop};
-ghost use Rattle.std.specs.Prelude.{IfErr, length, take};
+ghost use Rattle.std.specs.Prelude.{◌≡◌, ◌≤◌, ◌<◌, ◌-◌, ◌^◌, List, ℕ, Bool, false, if◌then◌else◌, IfOk, drop};
+ghost use Rattle.std.specs.Prelude.{IfErr, OnErr, OnOk, length, take};
 ghost use Rattle.line_engine.specs.Failures.{FailsOnlyCounted};
 ghost use Rattle.column_engine.specs.Answers.{is_asked};
 ghost use Rattle.column_engine.specs.Gathered.{GathersAnswer, GathersField, GathersFields, GathersPart, IsFieldAt};
 ghost use Rattle.column_engine.specs.Gathered.{ahead, only};
 ghost use Rattle.column_engine.specs.Rows.{raw_fields};
+ghost use Rattle.column_engine.specs.Seen.{OnlySaw, SeesField, SeesFields, SeesIf, place_in};
 ghost use Rattle.column_engine.specs.Limits.{longest_record};
 
 use crate::answer::{ColumnTask, Work, answer_asked};
@@ -14,6 +15,7 @@ use crate::columns::{Range, is_asked};
 use crate::gather::put;
 use crate::place::{Place, field_end};
 use crate::rule::FieldRule;
+use crate::watch::FieldWatch;
 use fixed_steps::Steps;
 use line_engine::{Failed, Sink};
 use std::sync::ledger::Ledger;
@@ -31,12 +33,12 @@ pub(crate) struct Field {
 
 /// Gathers the bytes before a requested field and the answer to it. Returns whether the field was refused.
 #[inline(always)]
-fn gather_answer<A: FieldRule<L>, K: Sink, L: Ledger>(
+fn gather_answer<A: FieldRule<L>, W: FieldWatch<A, L>, K: Sink, L: Ledger>(
     task: &ColumnTask<'_, A>,
     column: usize,
     before: &[u8],
     raw: &[u8],
-    work: &mut Work,
+    work: &mut Work<W>,
     sink: &mut K,
     steps: &mut Steps<L>,
 ) -> Result<bool, Failed>
@@ -47,6 +49,8 @@ fn gather_answer<A: FieldRule<L>, K: Sink, L: Ledger>(
     ensures err { OnErr result ((refused : Bool) × (left : List ℕ) × GathersAnswer (A.Answers task.now.rule.now)
         task.now.keeps task.now.delimiter before.now raw.now refused work.old.out left (K.written sink.old)
         (K.written sink.new)) }
+    ensures saw { OnlySaw (SeesField (A.Answers task.now.rule.now) (W.Saw task.now.rule.now)
+        (place_in work.old.records column) raw.now) work.old.records work.new.records }
     ensures failures { FailsOnlyCounted (K.failures sink.old) (K.failures sink.new) result }
 {
     let answered = answer_asked(task, column, raw, work, steps);
@@ -58,13 +62,13 @@ fn gather_answer<A: FieldRule<L>, K: Sink, L: Ledger>(
 
 /// Gathers the bytes since `from` and the answer to a field, or nothing if the field is not requested. Returns the
 /// index of the first byte not yet gathered, and how many fields were refused.
-fn pass_field<A: FieldRule<L>, K: Sink, L: Ledger>(
+fn pass_field<A: FieldRule<L>, W: FieldWatch<A, L>, K: Sink, L: Ledger>(
     task: &ColumnTask<'_, A>,
     asked: &[Range],
     body: &[u8],
     from: usize,
     field: Field,
-    work: &mut Work,
+    work: &mut Work<W>,
     sink: &mut K,
     steps: &mut Steps<L>,
 ) -> Result<(usize, u64), Failed>
@@ -84,6 +88,9 @@ fn pass_field<A: FieldRule<L>, K: Sink, L: Ledger>(
         (take (field.end - field.start) (drop field.start body.now)) refused
         (ahead work.old.out body.now from field.start)
         left (K.written sink.old) (K.written sink.new)) }
+    ensures saw { OnlySaw (SeesIf (is_asked asked.now field.column) (A.Answers task.now.rule.now)
+        (W.Saw task.now.rule.now) (place_in work.old.records field.column)
+        (take (field.end - field.start) (drop field.start body.now))) work.old.records work.new.records }
     ensures failures { FailsOnlyCounted (K.failures sink.old) (K.failures sink.new) result }
 {
     if !is_asked(asked, field.column) {
@@ -153,11 +160,11 @@ pub(crate) fn find_field(delimiter: u8, body: &[u8], column: usize) -> Result<Fi
 
 /// Gathers the answer to the only requested field, with the bytes around it. Returns how many fields were refused.
 #[inline(always)]
-pub(crate) fn answer_field<A: FieldRule<L>, K: Sink, L: Ledger>(
+pub(crate) fn answer_field<A: FieldRule<L>, W: FieldWatch<A, L>, K: Sink, L: Ledger>(
     task: &ColumnTask<'_, A>,
     field: Field,
     body: &[u8],
-    work: &mut Work,
+    work: &mut Work<W>,
     sink: &mut K,
     steps: &mut Steps<L>,
 ) -> Result<u64, Failed>
@@ -169,6 +176,9 @@ pub(crate) fn answer_field<A: FieldRule<L>, K: Sink, L: Ledger>(
     ensures err { OnErr result (GathersPart (A.Answers task.now.rule.now) task.now.keeps task.now.delimiter
         (only field.column) (raw_fields task.now.delimiter Place.Start body.now)
         work.old.out (K.written sink.old) (K.written sink.new)) }
+    ensures saw { OnlySaw (SeesFields (A.Answers task.now.rule.now) (W.Saw task.now.rule.now) (only field.column)
+        (place_in work.old.records) 0 (raw_fields task.now.delimiter Place.Start body.now)) work.old.records
+        work.new.records }
     ensures failures { FailsOnlyCounted (K.failures sink.old) (K.failures sink.new) result }
 {
     let raw = &body[field.start..field.end];
@@ -183,11 +193,11 @@ pub(crate) fn answer_field<A: FieldRule<L>, K: Sink, L: Ledger>(
 }
 
 /// Gathers the answers to the fields of a record. Returns how many were refused.
-pub(crate) fn answer_fields<A: FieldRule<L>, K: Sink, L: Ledger>(
+pub(crate) fn answer_fields<A: FieldRule<L>, W: FieldWatch<A, L>, K: Sink, L: Ledger>(
     task: &ColumnTask<'_, A>,
     asked: &[Range],
     body: &[u8],
-    work: &mut Work,
+    work: &mut Work<W>,
     sink: &mut K,
     steps: &mut Steps<L>,
 ) -> Result<u64, Failed>
@@ -198,6 +208,9 @@ pub(crate) fn answer_fields<A: FieldRule<L>, K: Sink, L: Ledger>(
     ensures err { OnErr result (GathersPart (A.Answers task.now.rule.now) task.now.keeps task.now.delimiter
         asked.now (raw_fields task.now.delimiter Place.Start body.now)
         work.old.out (K.written sink.old) (K.written sink.new)) }
+    ensures saw { OnOk result (OnlySaw (SeesFields (A.Answers task.now.rule.now) (W.Saw task.now.rule.now) asked.now
+        (place_in work.old.records) 0 (raw_fields task.now.delimiter Place.Start body.now)) work.old.records
+        work.new.records) }
     ensures failures { FailsOnlyCounted (K.failures sink.old) (K.failures sink.new) result }
 {
     let past = past_asked(asked);

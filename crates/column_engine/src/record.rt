@@ -4,9 +4,10 @@ ghost use Rattle.std.specs.Prelude.{◌≡◌, ◌≢◌, ◌≤◌, ◌<◌, �
 ghost use Rattle.std.specs.Prelude.{IfSome, OnOk, OnErr, get_or, if◌then◌else◌, length};
 ghost use Rattle.line_engine.specs.Failures.{FailsOnlyCounted};
 ghost use Rattle.line_engine.specs.Inner.Progress.{Flushes};
-ghost use Rattle.column_engine.specs.Answers.{needed, one_more};
+ghost use Rattle.column_engine.specs.Answers.{first_asked, name_of, needed, one_more};
 ghost use Rattle.column_engine.specs.Gathered.{GathersFields, GathersLonger, GathersPart, IsFieldAt, only};
 ghost use Rattle.column_engine.specs.Rows.{raw_fields};
+ghost use Rattle.column_engine.specs.Seen.{OnlySaw, SeesField, SeesFields, SeesInto, place_in};
 ghost use Rattle.column_engine.specs.Steps.{FailsRow, PassesRow, RisesOnly, SameCounts, StopsRow, state_of};
 ghost use Rattle.column_engine.specs.Limits.{longest_record};
 
@@ -18,6 +19,7 @@ use crate::gather::{put, put_end};
 use crate::place::Place;
 use crate::row::{Progress, count_record, lacking};
 use crate::rule::FieldRule;
+use crate::watch::FieldWatch;
 use fixed_steps::Steps;
 use line_engine::{Failed, Output, Sink};
 use std::sync::ledger::Ledger;
@@ -75,12 +77,12 @@ fn field_in(delimiter: u8, body: &[u8], column: usize) -> &[u8]
 
 /// Writes the record with one more field: the answer for the first requested column. Returns how many fields were
 /// refused.
-fn lengthen_record<A: FieldRule<L>, K: Sink, L: Ledger>(
+fn lengthen_record<A: FieldRule<L>, W: FieldWatch<A, L>, K: Sink, L: Ledger>(
     task: &ColumnTask<'_, A>,
     asked: &[Range],
     body: &[u8],
     end: &[u8],
-    work: &mut Work,
+    work: &mut Work<W>,
     sink: &mut K,
     steps: &mut Steps<L>,
 ) -> Result<u64, Failed>
@@ -93,6 +95,10 @@ fn lengthen_record<A: FieldRule<L>, K: Sink, L: Ledger>(
         (A.Answers task.now.rule.now) task.now.keeps task.now.delimiter asked.now
         (record { body = body.now; end = end.now }) refused work.old.out left (K.written sink.old)
         (K.written sink.new)) }
+    ensures saw { OnlySaw (SeesField (A.Answers task.now.rule.now) (W.Saw task.now.rule.now)
+        (place_in work.old.records (first_asked asked.now))
+        (get_or (raw_fields task.now.delimiter Place.Start body.now) (first_asked asked.now) [])) work.old.records
+        work.new.records }
     ensures failures { FailsOnlyCounted (K.failures sink.old) (K.failures sink.new) result }
 {
     let column = first_asked(asked);
@@ -128,12 +134,12 @@ fn only_field(delimiter: u8, asked: &[Range], body: &[u8]) -> Result<Option<Fiel
 }
 
 /// Gathers the answers to the fields of a record. Returns how many were refused.
-fn fill_record<A: FieldRule<L>, K: Sink, L: Ledger>(
+fn fill_record<A: FieldRule<L>, W: FieldWatch<A, L>, K: Sink, L: Ledger>(
     task: &ColumnTask<'_, A>,
     asked: &[Range],
     found: Option<Field>,
     body: &[u8],
-    work: &mut Work,
+    work: &mut Work<W>,
     sink: &mut K,
     steps: &mut Steps<L>,
 ) -> Result<u64, Failed>
@@ -146,6 +152,9 @@ fn fill_record<A: FieldRule<L>, K: Sink, L: Ledger>(
     ensures err { OnErr result (GathersPart (A.Answers task.now.rule.now) task.now.keeps task.now.delimiter
         asked.now (raw_fields task.now.delimiter Place.Start body.now)
         work.old.out (K.written sink.old) (K.written sink.new)) }
+    ensures saw { OnOk result (OnlySaw (SeesFields (A.Answers task.now.rule.now) (W.Saw task.now.rule.now) asked.now
+        (place_in work.old.records) 0 (raw_fields task.now.delimiter Place.Start body.now)) work.old.records
+        work.new.records) }
     ensures failures { FailsOnlyCounted (K.failures sink.old) (K.failures sink.new) result }
 {
     match found {
@@ -155,13 +164,13 @@ fn fill_record<A: FieldRule<L>, K: Sink, L: Ledger>(
 }
 
 /// Gathers the answer to a record that has the requested columns. Returns how many fields were refused.
-fn gather_record<A: FieldRule<L>, K: Sink, L: Ledger>(
+fn gather_record<A: FieldRule<L>, W: FieldWatch<A, L>, K: Sink, L: Ledger>(
     task: &ColumnTask<'_, A>,
     progress: &Progress<'_>,
     found: Option<Field>,
     body: &[u8],
     end: &[u8],
-    work: &mut Work,
+    work: &mut Work<W>,
     sink: &mut K,
     steps: &mut Steps<L>,
 ) -> Result<u64, Failed>
@@ -178,6 +187,9 @@ fn gather_record<A: FieldRule<L>, K: Sink, L: Ledger>(
     ensures err { OnErr result (FailsRow (A.Answers task.now.rule.now) task.now.keeps task.now.delimiter
         task.now.columns.now (record { body = body.now; end = end.now }) (state_of progress.now) work.old.out
         (K.written sink.old) (K.written sink.new)) }
+    ensures saw { OnOk result (OnlySaw (SeesInto (name_of progress.now.destination.now) (A.Answers task.now.rule.now)
+        (W.Saw task.now.rule.now) progress.now.asked.items (place_in work.old.records)
+        (raw_fields task.now.delimiter Place.Start body.now)) work.old.records work.new.records) }
     ensures failures { FailsOnlyCounted (K.failures sink.old) (K.failures sink.new) result }
 {
     match progress.destination {
@@ -203,12 +215,12 @@ fn gather_record<A: FieldRule<L>, K: Sink, L: Ledger>(
 }
 
 /// Answers a record other than a header.
-pub(crate) fn answer_record<A: FieldRule<L>, K: Sink, L: Ledger>(
+pub(crate) fn answer_record<A: FieldRule<L>, W: FieldWatch<A, L>, K: Sink, L: Ledger>(
     task: &ColumnTask<'_, A>,
     progress: &mut Progress<'_>,
     body: &[u8],
     end: &[u8],
-    work: &mut Work,
+    work: &mut Work<W>,
     sink: &mut K,
     steps: &mut Steps<L>,
 ) -> Result<(), Stop>
@@ -223,6 +235,10 @@ pub(crate) fn answer_record<A: FieldRule<L>, K: Sink, L: Ledger>(
     ensures err { IfErr result (λ stop. StopsRow stop (A.Answers task.now.rule.now) task.now.keeps
         task.now.delimiter task.now.columns.now (record { body = body.now; end = end.now })
         (state_of progress.old) work.old.out work.new.out (K.written sink.old) (K.written sink.new)) }
+    ensures saw { OnOk result (OnlySaw (SeesInto (name_of progress.old.destination.now) (A.Answers task.now.rule.now)
+        (W.Saw task.now.rule.now) progress.old.asked.items (place_in work.old.records)
+        (raw_fields task.now.delimiter Place.Start body.now)) work.old.records work.new.records) }
+    ensures unseen { IfErr result (λ stop. stop ≢ Stop.WriteFault → work.new.records ≡ work.old.records) }
     ensures counts { IfErr result (λ stop. SameCounts (state_of progress.old) (state_of progress.new)) }
     ensures as_many { length progress.new.asked.items ≡ length task.now.columns.now }
     ensures failures { RisesOnly (K.failures sink.old) (K.failures sink.new) result }

@@ -6,6 +6,7 @@ ghost use Rattle.line_engine.specs.Failures.{FailsOnlyCounted};
 ghost use Rattle.line_engine.specs.Inner.Progress.{Flushes};
 ghost use Rattle.column_engine.specs.Answers.{AnyMissing, AreFound, name_of, new_name, one_more};
 ghost use Rattle.column_engine.specs.Rows.{field_texts, raw_fields};
+ghost use Rattle.column_engine.specs.Seen.{SeesRow, place_in};
 ghost use Rattle.column_engine.specs.Steps.{IsHeader, IsNoHeader, PassesRow, RisesOnly, SameButAsked, SameCounts};
 ghost use Rattle.column_engine.specs.Steps.{StopsRow, state_of};
 ghost use Rattle.column_engine.specs.Limits.{longest_record};
@@ -19,8 +20,9 @@ use crate::header::found_column;
 use crate::place::{Place, field_end};
 use crate::record::{answer_record, put_longer, put_row};
 use crate::record_buffer::RecordBuffer;
+use crate::records::Records;
 use crate::rule::FieldRule;
-use crate::watch::ColumnWatch;
+use crate::watch::FieldWatch;
 use fixed_steps::Steps;
 use line_engine::{Failed, Sink};
 use std::sync::ledger::Ledger;
@@ -81,7 +83,7 @@ fn find_columns(
     columns: &[Column],
     asked: &mut [Range],
     text: &mut RecordBuffer,
-    watch: &ColumnWatch,
+    word: &mut usize,
 ) -> bool
     requires short { length header.now ≤ longest_record }
     requires as_many { length asked.old ≡ length columns.now }
@@ -89,7 +91,7 @@ fn find_columns(
     ensures missing { result ≡ false → AnyMissing (field_texts delimiter header.now) columns.now }
 {
     'columns: for at in 0..columns.len() {
-        watch.look_for(at);
+        *word = at;
         match found_column(delimiter, header, &columns[at], text) {
             Some(range) => asked[at] = range,
             None => return false,
@@ -99,26 +101,28 @@ fn find_columns(
 }
 
 /// Finds the requested columns in a header.
-fn read_header<A>(
+fn read_header<A, W>(
     task: &ColumnTask<'_, A>,
     progress: &mut Progress<'_>,
     body: &[u8],
     text: &mut RecordBuffer,
+    records: &mut Records<W>,
 ) -> Result<(), Stop>
     requires short { length body.now ≤ longest_record }
     requires as_many { length progress.old.asked.items ≡ length task.now.columns.now }
     ensures ok { OnOk result (IsHeader task.now.delimiter task.now.columns.now body.now progress.new.asked.items) }
     ensures stops { IfErr result (λ stop. IsNoHeader stop task.now.delimiter task.now.columns.now body.now) }
     ensures same { SameButAsked progress.old progress.new }
+    ensures unseen { records.new.observer ≡ records.old.observer }
 {
-    task.watch.keep_header(body);
+    records.keep_header(body);
     if !find_columns(
         task.delimiter,
         body,
         task.columns,
         &mut progress.asked,
         text,
-        task.watch,
+        &mut records.word,
     ) {
         return Err(Stop::NoName);
     }
@@ -129,12 +133,12 @@ fn read_header<A>(
 }
 
 /// Gathers the bytes of a header, the name of the new column, if any, and the byte that ends the header.
-fn put_header<K: Sink>(
+fn put_header<W, K: Sink>(
     delimiter: u8,
     destination: &Destination,
     body: &[u8],
     end: &[u8],
-    work: &mut Work,
+    work: &mut Work<W>,
     sink: &mut K,
 ) -> Result<(), Failed>
     ensures ok { OnOk result (Flushes work.old.out (body.now ++ new_name delimiter (name_of destination.now) ++ end.now)
@@ -142,6 +146,7 @@ fn put_header<K: Sink>(
     ensures err { OnErr result ((left : List ℕ) × Flushes work.old.out
         (body.now ++ new_name delimiter (name_of destination.now) ++ end.now) left (K.written sink.old)
         (K.written sink.new)) }
+    ensures unseen { work.new.records.observer ≡ work.old.records.observer }
     ensures failures { FailsOnlyCounted (K.failures sink.old) (K.failures sink.new) result }
 {
     match destination {
@@ -161,12 +166,12 @@ fn put_header<K: Sink>(
 }
 
 /// Answers a record, or passes an empty line or the header through.
-pub(crate) fn answer_row<A: FieldRule<L>, K: Sink, L: Ledger>(
+pub(crate) fn answer_row<A: FieldRule<L>, W: FieldWatch<A, L>, K: Sink, L: Ledger>(
     task: &ColumnTask<'_, A>,
     progress: &mut Progress<'_>,
     body: &[u8],
     end: &[u8],
-    work: &mut Work,
+    work: &mut Work<W>,
     sink: &mut K,
     steps: &mut Steps<L>,
 ) -> Result<(), Stop>
@@ -179,6 +184,12 @@ pub(crate) fn answer_row<A: FieldRule<L>, K: Sink, L: Ledger>(
     ensures err { IfErr result (λ stop. StopsRow stop (A.Answers task.now.rule.now) task.now.keeps
         task.now.delimiter task.now.columns.now (record { body = body.now; end = end.now })
         (state_of progress.old) work.old.out work.new.out (K.written sink.old) (K.written sink.new)) }
+    // What the observer was told, and that it was told nothing of a record that has no answer.
+    ensures saw { OnOk result (SeesRow (A.Answers task.now.rule.now) (W.Saw task.now.rule.now) task.now.delimiter
+        (state_of progress.old) (place_in work.old.records) body.now work.old.records.observer
+        work.new.records.observer) }
+    ensures unseen { IfErr result (λ stop. stop ≢ Stop.WriteFault
+        → work.new.records.observer ≡ work.old.records.observer) }
     ensures counts { IfErr result (λ stop. SameCounts (state_of progress.old) (state_of progress.new)) }
     ensures as_many { length progress.new.asked.items ≡ length task.now.columns.now }
     ensures failures { RisesOnly (K.failures sink.old) (K.failures sink.new) result }
@@ -192,7 +203,7 @@ pub(crate) fn answer_row<A: FieldRule<L>, K: Sink, L: Ledger>(
     if !progress.is_headed {
         return answer_record(task, progress, body, end, work, sink, steps);
     }
-    read_header(task, progress, body, &mut work.text)?;
+    read_header(task, progress, body, &mut work.text, &mut work.records)?;
     match put_header(task.delimiter, progress.destination, body, end, work, sink) {
         Err(_) => Err(Stop::WriteFault),
         Ok(()) => {

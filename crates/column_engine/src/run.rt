@@ -19,9 +19,11 @@ use crate::end::{ColumnEnd, Stop};
 use crate::gather::flush;
 use crate::place::Place;
 use crate::record_buffer::RecordBuffer;
+use crate::records::Records;
 use crate::row::{Progress, answer_row};
 use crate::rule::FieldRule;
 use crate::skip::pass_lines;
+use crate::watch::FieldWatch;
 use fixed_steps::Steps;
 use line_engine::{Output, Sink, Source, write_whole};
 use std::alloc::{AllocError, Global};
@@ -52,11 +54,11 @@ fn stop_after<K: Sink>(stop: Stop, out: &mut Output, sink: &mut K) -> Stop
 }
 
 /// Answers the records that end in a chunk, keeps the bytes after the last of them, and writes the answers.
-fn take_chunk<A: FieldRule<L>, K: Sink, L: Ledger>(
+fn take_chunk<A: FieldRule<L>, W: FieldWatch<A, L>, K: Sink, L: Ledger>(
     task: &ColumnTask<'_, A>,
     cutter: &mut Cutter<'_>,
     chunk: &[u8],
-    work: &mut Work,
+    work: &mut Work<W>,
     sink: &mut K,
     steps: &mut Steps<L>,
 ) -> Result<(), Stop>
@@ -87,10 +89,10 @@ fn take_chunk<A: FieldRule<L>, K: Sink, L: Ledger>(
 }
 
 /// Answers the last record of a text, which has no line end, if it is not empty. Returns how the text ended.
-fn end_text<A: FieldRule<L>, K: Sink, L: Ledger>(
+fn end_text<A: FieldRule<L>, W: FieldWatch<A, L>, K: Sink, L: Ledger>(
     task: &ColumnTask<'_, A>,
     cutter: &mut Cutter<'_>,
-    work: &mut Work,
+    work: &mut Work<W>,
     sink: &mut K,
     steps: &mut Steps<L>,
 ) -> Stop
@@ -110,7 +112,7 @@ fn end_text<A: FieldRule<L>, K: Sink, L: Ledger>(
     if let Place::Quoted = cutter.place {
         return Stop::Unclosed;
     }
-    task.watch.begin_kept(&cutter.kept, &[]);
+    work.records.begin_row(cutter.kept.as_slice(), &[], false);
     match answer_row(
         task,
         &mut cutter.progress,
@@ -130,10 +132,10 @@ fn end_text<A: FieldRule<L>, K: Sink, L: Ledger>(
 
 /// Reads the first bytes of a text, and writes its byte order mark, if any. `Err`: the run ended here, since the text
 /// ended, a record could not be answered, or a read or write failed.
-fn begin_text<A: FieldRule<L>, S: Source, K: Sink, L: Ledger>(
+fn begin_text<A: FieldRule<L>, W: FieldWatch<A, L>, S: Source, K: Sink, L: Ledger>(
     task: &ColumnTask<'_, A>,
     cutter: &mut Cutter<'_>,
-    work: &mut Work,
+    work: &mut Work<W>,
     source: &mut S,
     sink: &mut K,
     steps: &mut Steps<L>,
@@ -177,10 +179,10 @@ fn begin_text<A: FieldRule<L>, S: Source, K: Sink, L: Ledger>(
 }
 
 /// Reads a text to its end and answers its records.
-fn answer_text<A: FieldRule<L>, S: Source, K: Sink, L: Ledger>(
+fn answer_text<A: FieldRule<L>, W: FieldWatch<A, L>, S: Source, K: Sink, L: Ledger>(
     task: &ColumnTask<'_, A>,
     cutter: &mut Cutter<'_>,
-    work: &mut Work,
+    work: &mut Work<W>,
     source: &mut S,
     sink: &mut K,
     steps: &mut Steps<L>,
@@ -214,10 +216,10 @@ fn answer_text<A: FieldRule<L>, S: Source, K: Sink, L: Ledger>(
 }
 
 /// Passes the lines before the records through, reads the text to its end and answers its records.
-fn answer_after_lines<A: FieldRule<L>, S: Source, K: Sink, L: Ledger>(
+fn answer_after_lines<A: FieldRule<L>, W: FieldWatch<A, L>, S: Source, K: Sink, L: Ledger>(
     task: &ColumnTask<'_, A>,
     cutter: &mut Cutter<'_>,
-    work: &mut Work,
+    work: &mut Work<W>,
     source: &mut S,
     sink: &mut K,
     steps: &mut Steps<L>,
@@ -296,20 +298,6 @@ fn begin_cutter<'a, A>(alloc: Global, task: &ColumnTask<'a, A>) -> Result<Cutter
     })
 }
 
-/// Allocates the buffers for the answers.
-fn begin_work(alloc: Global) -> Result<Work, AllocError>
-    ensures { IfOk result (λ work. work.out ≡ []) }
-{
-    let text = RecordBuffer::new(alloc)?;
-    let scratch = RecordBuffer::new(alloc)?;
-    Ok(Work {
-        text,
-        scratch,
-        reply: Output::new(),
-        out: Output::new(),
-    })
-}
-
 /// Returns how the records of a text ended.
 fn end_of(stop: Stop, progress: &Progress<'_>) -> ColumnEnd
     ensures stop { result.stop ≡ stop }
@@ -323,44 +311,74 @@ fn end_of(stop: Stop, progress: &Progress<'_>) -> ColumnEnd
     }
 }
 
+/// What a run over columns leaves: how it ended, and the records with their observer.
+#[derive(Drop)]
+pub struct ColumnRun<W> {
+    /// How it ended.
+    pub end: ColumnEnd,
+    /// The records of the text up to the last one that was read.
+    pub records: Records<W>,
+}
+
 /// Answers columns of a text by a rule, and writes the text with these fields replaced to a sink. Lines before its
-/// records are passed through. Every other byte stays as it was: a byte order mark, quotes, blank lines, line ends.
+/// records are passed through. Every other byte stays as it was: a byte order mark, quotes, blank lines, line ends. The
+/// observer is told of each requested field and given back.
 ///
 /// It allocates three records of 1,048,576 bytes and a range of columns for each operand, and ends with `NoMemory` if
 /// that fails; afterwards it allocates nothing. Each read requests at most 16,384 bytes, and the answers to the records
 /// that ended in them are written before the next read.
 ///
 /// The delimiter is an ASCII character other than a quote, a line feed or a carriage return.
-pub fn run_column<A: FieldRule<L>, S: Source, K: Sink, L: Ledger>(
+pub fn run_column<A: FieldRule<L>, W: FieldWatch<A, L>, S: Source, K: Sink, L: Ledger>(
     alloc: Global,
     task: &ColumnTask<'_, A>,
+    observer: W,
     source: &mut S,
     sink: &mut K,
     steps: &mut Steps<L>,
-) -> ColumnEnd
+) -> ColumnRun<W>
     // The bytes read and written, by how the run ended.
-    ensures run { (result.stop ≡ Stop.NoMemory) ⊎ HasRunAfter task.now.skipped result.stop (A.Answers task.now.rule.now)
-        task.now.keeps task.now.delimiter task.now.columns.now
-        (first_state task.now.has_header task.now.destination.now task.now.columns.now) (counts_of result)
+    ensures run { (result.end.stop ≡ Stop.NoMemory)
+        ⊎ HasRunAfter task.now.skipped result.end.stop (A.Answers task.now.rule.now) task.now.keeps task.now.delimiter
+        task.now.columns.now
+        (first_state task.now.has_header task.now.destination.now task.now.columns.now) (counts_of result.end)
         (S.left source.old) (S.left source.new) (K.written sink.old) (K.written sink.new) }
 
     // Which count of failures rose.
     ensures failures { HasFailures (S.failures source.old) (S.failures source.new) (K.failures sink.old) (K.failures
-        sink.new) result.stop }
+        sink.new) result.end.stop }
 
     // Without memory, nothing was read or written.
-    ensures memory { result.stop ≡ Stop.NoMemory → (source.new ≡ source.old) × (sink.new ≡ sink.old) }
+    ensures memory { result.end.stop ≡ Stop.NoMemory → (source.new ≡ source.old) × (sink.new ≡ sink.old) }
 {
-    match (begin_cutter(alloc, task), begin_work(alloc)) {
-        (Ok(mut cutter), Ok(mut work)) => {
+    let records = Records::new(task.skipped.saturating_add(1), observer);
+    match (
+        begin_cutter(alloc, task),
+        RecordBuffer::new(alloc),
+        RecordBuffer::new(alloc),
+    ) {
+        (Ok(mut cutter), Ok(text), Ok(scratch)) => {
+            let mut work = Work {
+                text,
+                scratch,
+                reply: Output::new(),
+                out: Output::new(),
+                records,
+            };
             let stop = answer_after_lines(task, &mut cutter, &mut work, source, sink, steps);
-            end_of(stop, &cutter.progress)
+            ColumnRun {
+                end: end_of(stop, &cutter.progress),
+                records: work.records,
+            }
         }
-        _ => ColumnEnd {
-            stop: Stop::NoMemory,
-            answered: 0,
-            refused: 0,
-            first: 0,
+        _ => ColumnRun {
+            end: ColumnEnd {
+                stop: Stop::NoMemory,
+                answered: 0,
+                refused: 0,
+                first: 0,
+            },
+            records,
         },
     }
 }

@@ -1,7 +1,7 @@
 //! The rule of the program: it answers a text with the column of its cells in order.
 
-ghost use Rattle.std.specs.Prelude.{◌≡◌, ◌++◌, IfOk};
-ghost use Rattle.fixed_columns.specs.Answer.{IsWholeAnswer, column_style, fault_line, fault_message};
+ghost use Rattle.std.specs.Prelude.{◌≡◌};
+ghost use Rattle.fixed_columns.specs.Answer.{IsWholeAnswer, column_style, fault_message};
 ghost use Rattle.fixed_columns.specs.Lemmas.ColumnsLemmas.{answer_one};
 
 use crate::cells::read_cells;
@@ -9,9 +9,8 @@ use crate::column_text::write_cells;
 use crate::fault::{CellFault, CellsError};
 use fixed_steps::Steps;
 use fixed_write::{Notation, Style};
-use itoa::Buffer;
 use line_engine::{WholeAnswer, WholeRule};
-use std::alloc::{AllocError, Global};
+use std::alloc::Global;
 use std::sync::ledger::Ledger;
 use text_buffer::NoMemory;
 
@@ -43,20 +42,6 @@ fn message(fault: CellFault) -> &'static [u8]
     }
 }
 
-/// Returns the text for a line with a fault.
-fn fault_text(alloc: Global, line: u64, fault: CellFault) -> Result<Vec<u8>, AllocError>
-    ensures { IfOk result (λ text. text.items ≡ fault_line line fault) }
-{
-    let mut digits = Buffer::new();
-    let mut text = Vec::new(alloc);
-    text.extend_from_slice(b"error: line ")?;
-    text.extend_from_slice(digits.format(line).as_bytes())?;
-    text.extend_from_slice(b": ")?;
-    text.extend_from_slice(message(fault))?;
-    text.push(b'\n')?;
-    Ok(text)
-}
-
 impl<L: Ledger> WholeRule<L> for ColumnsRule {
     ghost Answers = { λ rule. IsWholeAnswer };
 
@@ -70,11 +55,10 @@ impl<L: Ledger> WholeRule<L> for ColumnsRule {
             Ok(mut cells) => {
                 cells.sort();
                 let text = write_cells(alloc, &cells, &column_style())?;
-                Ok(WholeAnswer::new(text.into_bytes(), false))
+                Ok(WholeAnswer::Text(text.into_bytes()))
             }
             Err(CellsError::Refused { line, fault }) => {
-                let text = fault_text(alloc, line, fault)?;
-                Ok(WholeAnswer::new(text, true))
+                WholeAnswer::refused(alloc, line, message(fault))
             }
             Err(CellsError::NoMemory) => Err(NoMemory),
         }

@@ -3,5 +3,5 @@ use Rattle.column_engine.specs.declared.place.Place.TheVariants.{Start}
 use Rattle.column_engine.proofs.RowLemmas.{content_short}
 use Rattle.column_engine.proofs.answer.reply_to.Goals as goal
 
-pub answer-requires-clause-short : goal.answer-requires-clause-short
-answer-requires-clause-short g c = rw c.in-Some.ensures (omega (arith, content_short Start c.args.raw.now, c.requires))
+pub answer_text-requires-clause-short : goal.answer_text-requires-clause-short
+answer_text-requires-clause-short g c = rw c.in-Some.ensures (omega (arith, content_short Start c.args.raw.now, c.requires))

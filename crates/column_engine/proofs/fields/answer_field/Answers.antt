@@ -1,10 +1,11 @@
-use Rattle.std.proofs.Common.{refl, if◌then◌else◌}
+use Rattle.std.proofs.Common.{◌-◌, drop, refl, take, if◌then◌else◌}
 use Rattle.std.proofs.lemmas.List.{take_rest}
 use Rattle.column_engine.specs.Gathered.{only}
 use Rattle.column_engine.specs.Rows.{raw_fields}
 use Rattle.column_engine.specs.declared.place.Place.TheVariants.{Start}
 use Rattle.column_engine.proofs.FieldsLemmas.{field_cut, field_filled}
 use Rattle.column_engine.proofs.GatherLemmas.{part_all}
+use Rattle.column_engine.proofs.SeenLemmas.{sees_only}
 use Rattle.column_engine.proofs.fields.answer_field.Goals as goal
 
 pub returns-in-Err-clause-err : goal.returns-in-Err-clause-err
@@ -37,3 +38,21 @@ returns-in-Ok-put-clause-ok g c =
     field_filled (g.A.FieldRule.Answers c.args.task.now.rule.now) c.args.task.now.keeps c.args.task.now.delimiter body _ _ f.column f.start f.end c.as_count.result c.in-Ok.is_refused
     c.args.work.now.out c.gather_answer.new.work.out c.put.new.out (g.K.Sink.written c.args.sink.now) (g.K.Sink.written c.gather_answer.new.sink) (g.K.Sink.written c.put.new.sink)
     c.requires.field c.as_count.ensures.value refl (take_rest body f.end) c.in-Ok.ensures.ok c.in-Ok-put.ensures.ok
+
+pub returns-in-Err-clause-saw : goal.returns-in-Err-clause-saw
+returns-in-Err-clause-saw g c =
+    let f = c.args.field in
+    sees_only (g.A.FieldRule.Answers c.args.task.now.rule.now) (g.W.FieldWatch.Saw c.args.task.now.rule.now) c.args.task.now.delimiter c.args.body.now
+    (take (f.end - f.start) (drop f.start c.args.body.now)) f.column f.start f.end c.args.work.now.records c.gather_answer.new.work.records c.requires.field c.requires.field.cut c.in-Err.ensures.saw
+
+pub returns-in-Err-put-clause-saw : goal.returns-in-Err-put-clause-saw
+returns-in-Err-put-clause-saw g c =
+    let f = c.args.field in
+    sees_only (g.A.FieldRule.Answers c.args.task.now.rule.now) (g.W.FieldWatch.Saw c.args.task.now.rule.now) c.args.task.now.delimiter c.args.body.now
+    (take (f.end - f.start) (drop f.start c.args.body.now)) f.column f.start f.end c.args.work.now.records c.gather_answer.new.work.records c.requires.field c.requires.field.cut c.in-Ok.ensures.saw
+
+pub returns-in-Ok-put-clause-saw : goal.returns-in-Ok-put-clause-saw
+returns-in-Ok-put-clause-saw g c =
+    let f = c.args.field in
+    sees_only (g.A.FieldRule.Answers c.args.task.now.rule.now) (g.W.FieldWatch.Saw c.args.task.now.rule.now) c.args.task.now.delimiter c.args.body.now
+    (take (f.end - f.start) (drop f.start c.args.body.now)) f.column f.start f.end c.args.work.now.records c.gather_answer.new.work.records c.requires.field c.requires.field.cut c.in-Ok.ensures.saw

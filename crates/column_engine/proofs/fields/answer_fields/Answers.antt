@@ -8,6 +8,7 @@ use Rattle.column_engine.specs.Limits.{longest_record}
 use Rattle.column_engine.proofs.FieldsLemmas.{ahead_next, ahead_rest, field_at, fields_next, fields_rest, flushes_rest, none_after, part_next}
 use Rattle.column_engine.proofs.GatherLemmas.{before_later, fields_none, fields_on, on_err, part_all}
 use Rattle.column_engine.proofs.RowLemmas.{cut_more}
+use Rattle.column_engine.proofs.SeenLemmas.{sees_first, sees_next, sees_rest}
 use Rattle.column_engine.proofs.fields.answer_fields.Goals as goal
 
 pub fields-init : goal.fields-init
@@ -22,6 +23,7 @@ fields-init g c = record {
   few = omega arith;
   before = c.args.work.now.out;
   fields = fields_none (g.A.FieldRule.Answers c.args.task.now.rule.now) c.args.task.now.keeps c.args.task.now.delimiter c.args.asked.now c.args.work.now.out (g.K.Sink.written c.args.sink.now);
+  seen = sees_first (g.A.FieldRule.Answers c.args.task.now.rule.now) (g.W.FieldWatch.Saw c.args.task.now.rule.now) c.args.asked.now c.args.work.now.records;
   held = refl;
 }
 
@@ -114,6 +116,8 @@ fields-preserved g c =
       before = ahead out body c.in_ok-next.next end;
       fields = fields_next A keeps d c.args.asked.now inv.some raw c.fields.column c.fields.refused c.in_ok-next.count c.args.work.now.out inv.before (ahead c.fields.work.out body c.fields.from start)
           (ahead out body c.in_ok-next.next end) (g.K.Sink.written c.args.sink.now) (g.K.Sink.written c.fields.sink) (g.K.Sink.written c.pass_field.new.sink) inv.many inv.fields inv.held c.in_ok-next.ensures.ok;
+      seen = sees_next A (g.W.FieldWatch.Saw c.args.task.now.rule.now) c.args.asked.now inv.some raw c.fields.column c.args.work.now.records c.fields.work.records c.pass_field.new.work.records
+          inv.many inv.seen c.in_ok-next.ensures.saw;
       held = rw (before_later d c.fields.column) (ahead_next out body d c.in_ok-next.next end c.in_ok-next.ensures.from (found.delimiter low));
     }
 
@@ -152,3 +156,27 @@ returns-clause-ok g c =
     (ap (λ l. l ++ drop start body) inv.held ∙ ahead_rest c.fields.work.out body c.fields.from start inv.low inv.fits) c.in_ok-put-2.ensures.ok in
     let none = none_after d asked body c.past_asked-past.result c.fields.column start longest_record (omega (arith, c.fields-test.false)) inv.span inv.fits c.requires (omega arith) c.past_asked-past.ensures in
     rw inv.cut (fields_rest A keeps d asked c.fields.column c.fields.refused inv.some (drop start body) c.args.work.now.out inv.before c.put-2.new.out a b z inv.many none inv.fields last)
+
+pub returns-then-end-body-clause-saw : goal.returns-then-end-body-clause-saw
+returns-then-end-body-clause-saw g c =
+    let inv = c.fields.invariant in
+    let d = c.args.task.now.delimiter in
+    let body = c.args.body.now in
+    let start = c.fields.start in
+    let end = start + c.field_end.result in
+    let found = field_at d body _ start c.field_end.result inv.fits (take_rest body start) c.field_end.ensures.within c.field_end.ensures.last c.field_end.ensures.more c.field_end.ensures.delimiter in
+    let raw = take (end - start) (drop start body) in
+    let cut : raw_fields d Start body ≡ inv.some ++ raw ∷ [] = inv.cut ∙ ap (λ l. inv.some ++ l) (found.last c.if-end-body.true) in
+    rw cut (sees_next (g.A.FieldRule.Answers c.args.task.now.rule.now) (g.W.FieldWatch.Saw c.args.task.now.rule.now) c.args.asked.now inv.some raw c.fields.column
+    c.args.work.now.records c.fields.work.records c.pass_field.new.work.records inv.many inv.seen c.in_ok-next.ensures.saw)
+
+pub returns-clause-saw : goal.returns-clause-saw
+returns-clause-saw g c =
+    let inv = c.fields.invariant in
+    let d = c.args.task.now.delimiter in
+    let asked = c.args.asked.now in
+    let body = c.args.body.now in
+    let start = c.fields.start in
+    let none = none_after d asked body c.past_asked-past.result c.fields.column start longest_record (omega (arith, c.fields-test.false)) inv.span inv.fits c.requires (omega arith) c.past_asked-past.ensures in
+    rw inv.cut (sees_rest (g.A.FieldRule.Answers c.args.task.now.rule.now) (g.W.FieldWatch.Saw c.args.task.now.rule.now) asked inv.some (raw_fields d Start (drop start body)) c.fields.column
+    c.args.work.now.records c.fields.work.records inv.many none inv.seen)

@@ -7,6 +7,7 @@ use Rattle.column_engine.specs.Steps.{PassesRow, state_of}
 use Rattle.column_engine.specs.declared.place.Place.TheVariants.{Start}
 use Rattle.column_engine.proofs.FeedLemmas.{fails_fields, fails_longer, passes_fields, passes_longer}
 use Rattle.column_engine.proofs.GatherLemmas.{if_ok}
+use Rattle.column_engine.proofs.SeenLemmas.{on_ok_all, sees_in_place, sees_new}
 use Rattle.column_engine.proofs.record.gather_record.Goals as goal
 
 pub returns-in-NewColumn-clause-ok : goal.returns-in-NewColumn-clause-ok
@@ -72,3 +73,17 @@ returns-in-Ok-put_end-clause-ok g c =
     passes_fields A keeps d c.args.task.now.columns.now (state_of c.args.progress.now) (record { body = c.args.body.now; end = c.args.end.now }) c.in-Ok.refused held mid c.put_end.new.out
     a b (g.K.Sink.written c.put_end.new.sink) c.requires.short c.requires.known (ap name_of c.in-InPlace.is) c.requires.some c.requires.enough
     (subst (λ l. GathersFields A keeps d l 0 raws c.in-Ok.refused held mid a b) c.deref-in-InPlace.ensures.value c.in-Ok.ensures.ok) c.in-Ok-put_end.ensures.ok
+
+pub returns-in-NewColumn-clause-saw : goal.returns-in-NewColumn-clause-saw
+returns-in-NewColumn-clause-saw g c =
+    let raws = raw_fields c.args.task.now.delimiter Start c.args.body.now in
+    on_ok_all c.lengthen_record.result _ (sees_new (g.A.FieldRule.Answers c.args.task.now.rule.now) (g.W.FieldWatch.Saw c.args.task.now.rule.now) (name_of c.args.progress.now.destination.now)
+    c.in-NewColumn.field-0 c.deref.result.now c.args.progress.now.asked.items raws c.args.work.now.records c.lengthen_record.new.work.records (ap name_of c.in-NewColumn.is) c.deref.ensures.value
+    c.lengthen_record.ensures.saw)
+
+pub returns-in-Ok-put_end-clause-saw : goal.returns-in-Ok-put_end-clause-saw
+returns-in-Ok-put_end-clause-saw g c =
+    let raws = raw_fields c.args.task.now.delimiter Start c.args.body.now in
+    sees_in_place (g.A.FieldRule.Answers c.args.task.now.rule.now) (g.W.FieldWatch.Saw c.args.task.now.rule.now) (name_of c.args.progress.now.destination.now)
+    c.deref-in-InPlace.result.now c.args.progress.now.asked.items raws c.args.work.now.records c.fill_record.new.work.records (ap name_of c.in-InPlace.is) c.deref-in-InPlace.ensures.value
+    c.in-Ok.ensures.saw

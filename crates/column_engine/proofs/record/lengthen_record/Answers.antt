@@ -1,8 +1,9 @@
 use Rattle.std.proofs.Common.{◌++◌, [], ◌∷◌, ◌∙◌, ap, get_or, subst, sym, true}
 use Rattle.line_engine.specs.Inner.Progress.{Flushes}
-use Rattle.column_engine.specs.Answers.{IsAnswer}
 use Rattle.column_engine.specs.Rows.{raw_fields}
 use Rattle.column_engine.specs.declared.place.Place.TheVariants.{Start}
+use Rattle.column_engine.specs.Answers.{IsAnswer, first_asked}
+use Rattle.column_engine.proofs.SeenLemmas.{sees_at}
 use Rattle.column_engine.proofs.record.lengthen_record.Goals as goal
 
 pub returns-in-Err-clause-err : goal.returns-in-Err-clause-err
@@ -25,3 +26,17 @@ returns-in-Err-clause-err g c =
             c.answer_asked-answered.ensures.out part.1;
       },
     )
+
+pub returns-in-Err-clause-saw : goal.returns-in-Err-clause-saw
+returns-in-Err-clause-saw g c =
+    let raws = raw_fields c.args.task.now.delimiter Start c.args.body.now in
+    sees_at (g.A.FieldRule.Answers c.args.task.now.rule.now) (g.W.FieldWatch.Saw c.args.task.now.rule.now) c.first_asked-column.result (first_asked c.args.asked.now)
+    c.field_in-raw.result.now (get_or raws (first_asked c.args.asked.now) []) c.args.work.now.records c.answer_asked-answered.new.work.records c.first_asked-column.ensures
+    (c.field_in-raw.ensures.value ∙ ap (λ k. get_or raws k []) c.first_asked-column.ensures) c.answer_asked-answered.ensures.saw
+
+pub returns-in-Ok-clause-saw : goal.returns-in-Ok-clause-saw
+returns-in-Ok-clause-saw g c =
+    let raws = raw_fields c.args.task.now.delimiter Start c.args.body.now in
+    sees_at (g.A.FieldRule.Answers c.args.task.now.rule.now) (g.W.FieldWatch.Saw c.args.task.now.rule.now) c.first_asked-column.result (first_asked c.args.asked.now)
+    c.field_in-raw.result.now (get_or raws (first_asked c.args.asked.now) []) c.args.work.now.records c.answer_asked-answered.new.work.records c.first_asked-column.ensures
+    (c.field_in-raw.ensures.value ∙ ap (λ k. get_or raws k []) c.first_asked-column.ensures) c.answer_asked-answered.ensures.saw

@@ -23,9 +23,9 @@ returns-in-Err g c =
     let last = is_last A keeps d columns kept c.args.cutter.now.place c.requires.standing (λ e. not_both c.is_empty.result c.if-is_empty.false (c.is_empty.ensures.none.1 e)) c.in_default.not-Quoted in
     record {
       ends = λ left end. stops_last A keeps d columns c.in-Err.stop kept held s (state_of c.answer_row.new.progress) left a b last end c.in-Err.ensures.counts
-          (subst (λ l. StopsRow c.in-Err.stop A keeps d columns (record { body = l; end = [] }) s [] held a b) c.as_slice.ensures.bytes
-          (subst (λ h. StopsRow c.in-Err.stop A keeps d columns (record { body = c.as_slice.result.now; end = [] }) s h held a b) c.requires.empty c.in-Err.ensures.err));
-      reads = row_unread A keeps d columns c.in-Err.stop (record { body = c.as_slice.result.now; end = [] }) s c.args.work.now.out held a b c.in-Err.ensures.err;
+          (subst (λ l. StopsRow c.in-Err.stop A keeps d columns (record { body = l; end = [] }) s [] held a b) c.as_slice-2.ensures.bytes
+          (subst (λ h. StopsRow c.in-Err.stop A keeps d columns (record { body = c.as_slice-2.result.now; end = [] }) s h held a b) c.requires.empty c.in-Err.ensures.err));
+      reads = row_unread A keeps d columns c.in-Err.stop (record { body = c.as_slice-2.result.now; end = [] }) s c.args.work.now.out held a b c.in-Err.ensures.err;
       failures = c.in-Err.ensures.failures.stops;
     }
 
@@ -44,8 +44,8 @@ returns-in-Err-flush g c =
     let last = is_last A keeps d columns kept c.args.cutter.now.place c.requires.standing (λ e. not_both c.is_empty.result c.if-is_empty.false (c.is_empty.ensures.none.1 e)) c.in_default.not-Quoted in
     record {
       ends = λ left end. stops_cut A keeps d columns kept held s u left a b (g.K.Sink.written c.flush.new.sink) last end
-          (subst (λ l. PassesRow A keeps d columns (record { body = l; end = [] }) s u [] held a b) c.as_slice.ensures.bytes
-          (subst (λ h. PassesRow A keeps d columns (record { body = c.as_slice.result.now; end = [] }) s u h held a b) c.requires.empty c.in-Ok.ensures.ok)) c.in-Err-flush.ensures.err;
+          (subst (λ l. PassesRow A keeps d columns (record { body = l; end = [] }) s u [] held a b) c.as_slice-2.ensures.bytes
+          (subst (λ h. PassesRow A keeps d columns (record { body = c.as_slice-2.result.now; end = [] }) s u h held a b) c.requires.empty c.in-Ok.ensures.ok)) c.in-Err-flush.ensures.err;
       reads = λ e. cc;
       failures = subst (λ n. HasFailed n (g.K.Sink.failures c.flush.new.sink)) c.in-Ok.ensures.failures.same c.in-Err-flush.ensures.failures.failed;
     }
@@ -65,8 +65,8 @@ returns-in-Ok-flush g c =
     let last = is_last A keeps d columns kept c.args.cutter.now.place c.requires.standing (λ e. not_both c.is_empty.result c.if-is_empty.false (c.is_empty.ensures.none.1 e)) c.in_default.not-Quoted in
     record {
       ends = λ left end. stops_done A keeps d columns kept held s u left a b (g.K.Sink.written c.flush.new.sink) last end
-          (subst (λ l. PassesRow A keeps d columns (record { body = l; end = [] }) s u [] held a b) c.as_slice.ensures.bytes
-          (subst (λ h. PassesRow A keeps d columns (record { body = c.as_slice.result.now; end = [] }) s u h held a b) c.requires.empty c.in-Ok.ensures.ok)) c.in-Ok-flush.ensures.ok;
+          (subst (λ l. PassesRow A keeps d columns (record { body = l; end = [] }) s u [] held a b) c.as_slice-2.ensures.bytes
+          (subst (λ h. PassesRow A keeps d columns (record { body = c.as_slice-2.result.now; end = [] }) s u h held a b) c.requires.empty c.in-Ok.ensures.ok)) c.in-Ok-flush.ensures.ok;
       reads = λ e. cc;
       failures = c.in-Ok-flush.ensures.failures.same ∙ c.in-Ok.ensures.failures.same;
     }

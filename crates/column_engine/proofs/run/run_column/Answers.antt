@@ -5,8 +5,8 @@ use Rattle.column_engine.specs.Steps.{state_of}
 use Rattle.column_engine.proofs.SkipLemmas.{after_counts}
 use Rattle.column_engine.proofs.run.run_column.Goals as goal
 
-pub returns-in-Ok-Ok-clause-run : goal.returns-in-Ok-Ok-clause-run
-returns-in-Ok-Ok-clause-run g c =
+pub returns-in-Ok-Ok-Ok-clause-run : goal.returns-in-Ok-Ok-Ok-clause-run
+returns-in-Ok-Ok-Ok-clause-run g c =
     let A = g.A.FieldRule.Answers c.args.task.now.rule.now in
     let keeps = c.args.task.now.keeps in
     let d = c.args.task.now.delimiter in
@@ -22,4 +22,4 @@ returns-in-Ok-Ok-clause-run g c =
     let b = g.K.Sink.written c.answer_after_lines-stop.new.sink in
     inr (subst (λ k. HasRunAfter skipped k A keeps d columns start v left left' a b) (sym c.end_of.ensures.stop)
     (after_counts skipped stop A keeps d columns start u v left left' a b c.end_of.ensures.counts
-    (subst (λ s. HasRunAfter skipped stop A keeps d columns s u left left' a b) c.in-Ok-Ok.ensures.progress c.answer_after_lines-stop.ensures.run)))
+    (subst (λ s. HasRunAfter skipped stop A keeps d columns s u left left' a b) c.in-Ok-Ok-Ok.ensures.progress c.answer_after_lines-stop.ensures.run)))

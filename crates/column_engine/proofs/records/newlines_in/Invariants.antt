@@ -1,5 +1,5 @@
 use Rattle.std.proofs.Common.{◌≤◌, length}
-use Rattle.column_engine.proofs.watch.newlines_in.Given as goal
+use Rattle.column_engine.proofs.records.newlines_in.Given as goal
 
 abbrev pub invariant-newlines : goal.invariant-newlines
 invariant-newlines l = record {
