@@ -22,8 +22,8 @@ use Rattle.fixed_numeral.specs.declared.radix.Radix.TheVariants.{Bin, Oct, Dec, 
 use Rattle.fixed_read.proofs.Public.{read_number_is_the_one, read_unique}
 use Rattle.fixed_read.specs.Reading.{IsReadNumber, IsReading}
 use Rattle.fixed_read.specs.declared.read_number.ReadNumber.{ReadNumber}
-use Rattle.fixed_error.specs.ErrorSize.{HasGreaterError, HasNoGreaterError, IsReadWithin, error_size}
-use Rattle.fixed_error.specs.Inner.Gap.{HasSteps, IsGap, IsGapOf, greater_part, less_part, sum_of}
+use Rattle.fixed_error.specs.ErrorSize.{HasGreaterError, HasNoGreaterError, HasSteps, IsReadWithin, error_size}
+use Rattle.fixed_error.specs.Inner.Gap.{IsGap, IsGapOf, greater_part, less_part, sum_of}
 use Rattle.fixed_error.specs.Inner.Sums.{Decides, padded, sum_value}
 use Rattle.fixed_error.specs.declared.gap.Gap.{Gap}
 use Rattle.fixed_error.proofs.SumLemmas.{power_split}

@@ -5,9 +5,8 @@ use Rattle.fixed_numeral.proofs.Public.{magnitude_pos, parts_unique}
 use Rattle.fixed_numeral.specs.Value.{Fraction, magnitude}
 use Rattle.fixed_numeral.specs.declared.radix.Radix.{Radix}
 use Rattle.fixed_error.proofs.GapLemmas.{cancel_lt, steps_for}
-use Rattle.fixed_error.specs.ErrorSize.{HasErrorSize, HasGreaterError, HasNoGreaterError, IsReadWithin, error_size}
+use Rattle.fixed_error.specs.ErrorSize.{HasErrorSize, HasGreaterError, HasNoGreaterError, HasSteps, IsReadWithin, error_size}
 use Rattle.fixed_error.specs.Greatest.{Entry, IsAboveAll, IsFirstGreatest, IsKept, IsNotBelowAny}
-use Rattle.fixed_error.specs.Inner.Gap.{HasSteps}
 
 -- ---- sizes
 -- the error of a numeral has only one size

@@ -6,6 +6,7 @@ mod RestLemmas
 mod NearLemmas
 mod FewLemmas
 mod ShortLemmas
+mod CutLemmas
 mod ErrorsLemmas
 mod UniqueLemmas
 mod WordLemmas

@@ -46,19 +46,23 @@ block_power Hex = omega arith
 pub product_is : (b x y number k : ℕ) → x ≡ number → y ≡ b ^ k → x * y ≡ number * b ^ k
 product_is b x y number k e f = ap (λ t. t * y) e ∙ ap (λ t. number * t) f
 
-pub first_within : (r : Radix) (ds : List ℕ) → AllBelowBase (base r) ds → first_number (base r) (block r) ds ≤ 2 ^ 60
+pub first_below : (r : Radix) (ds : List ℕ) → AllBelowBase (base r) ds → first_number (base r) (block r) ds < base r ^ block r
 unfolding first_number
-first_within r ds all =
+first_below r ds all =
     let b : ℕ = base r in
     let h : ℕ = block r in
     let t : ℕ = length (take h ds) in
     let rest : ℕ = b ^ (h - min h (length ds)) in
     let less : number_from_digits b (take h ds) < b ^ t = number_lt b (take h ds) (below_split b ds h all).0 in
-    let m : number_from_digits b (take h ds) * rest ≤ b ^ t * rest = mul-le-mul_right rest (omega (arith, less)) in
+    let some : 1 ≤ b ^ (h - min h (length ds)) = one-le-pow (h - min h (length ds)) b (base_least r) in
+    let m : (number_from_digits b (take h ds) + 1) * rest ≤ b ^ t * rest = mul-le-mul_right rest (omega (arith, less)) in
     let left : h - min h (length ds) ≡ h - t = omega (arith, length-take h ds) in
     let e : b ^ t * rest ≡ b ^ t * b ^ (h - t) = ap (λ k. b ^ t * b ^ k) left in
     let split : b ^ h ≡ b ^ t * b ^ (h - t) = power_split b t h (omega (arith, length-take h ds)) in
-    omega (arith, m, e, split, block_power r)
+    omega (arith, m, e, split, some)
+
+pub first_within : (r : Radix) (ds : List ℕ) → AllBelowBase (base r) ds → first_number (base r) (block r) ds ≤ 2 ^ 60
+first_within r ds all = omega (arith, first_below r ds all, block_power r)
 
 -- ---- a block of digits
 cut : (b h : ℕ) (ds : List ℕ) → number_from_digits b (drop h ds) * b ^ (h - min h (length ds)) ≡ number_from_digits b (drop h ds)
@@ -78,7 +82,7 @@ cut b h ds =
 regroup : (x n pt e g : ℕ) → n * e ≡ n → (x * g + n) * (pt * e) * g ≡ (x * e * g + n) * (pt * g)
 regroup x n pt e g h = let m : n * e * (pt * g) ≡ n * (pt * g) = ap (λ t. t * (pt * g)) h in omega (arith, m)
 
-block_is : (b h : ℕ) (ds : List ℕ) → number_from_digits b ds * b ^ h * b ^ length (drop h ds) ≡ (first_number b h ds * b ^ length (drop h ds) + number_from_digits b (drop h ds)) * b ^ length ds
+pub block_is : (b h : ℕ) (ds : List ℕ) → number_from_digits b ds * b ^ h * b ^ length (drop h ds) ≡ (first_number b h ds * b ^ length (drop h ds) + number_from_digits b (drop h ds)) * b ^ length ds
 unfolding first_number
 block_is b h ds =
     let t : ℕ = min h (length ds) in
@@ -116,14 +120,18 @@ cut_of n d v more f k z some e less =
       at_most = cancel_le (n * d) ((v + more) * f) k some (omega (arith, e, m));
     }
 
-digits_cut : (b h more : ℕ) (ds : List ℕ) → 1 ≤ b → number_from_digits b (drop h (drop h ds)) ≤ more * b ^ length (drop h (drop h ds)) → IsCut (number_from_digits b ds) (b ^ h * b ^ h) (first_number b h ds * b ^ h + first_number b h (drop h ds)) more (b ^ length ds)
-digits_cut b h more ds some less =
+pub digits_are : (b h : ℕ) (ds : List ℕ) → 1 ≤ b → number_from_digits b ds * (b ^ h * b ^ h) * b ^ length (drop h (drop h ds)) ≡ ((first_number b h ds * b ^ h + first_number b h (drop h ds)) * b ^ length (drop h (drop h ds)) + number_from_digits b (drop h (drop h ds))) * b ^ length ds
+digits_are b h ds some =
     let later : List ℕ = drop h ds in
     let last : List ℕ = drop h later in
     let g : 1 ≤ b ^ length later = one-le-pow (length later) b some in
+    two_blocks (number_from_digits b ds) (b ^ h) (b ^ length later) (first_number b h ds) (number_from_digits b later) (b ^ length ds) (b ^ length last) (first_number b h later) (number_from_digits b last) (omega (arith, g)) (block_is b h ds) (block_is b h later)
+
+digits_cut : (b h more : ℕ) (ds : List ℕ) → 1 ≤ b → number_from_digits b (drop h (drop h ds)) ≤ more * b ^ length (drop h (drop h ds)) → IsCut (number_from_digits b ds) (b ^ h * b ^ h) (first_number b h ds * b ^ h + first_number b h (drop h ds)) more (b ^ length ds)
+digits_cut b h more ds some less =
+    let last : List ℕ = drop h (drop h ds) in
     let k : 1 ≤ b ^ length last = one-le-pow (length last) b some in
-    let e = two_blocks (number_from_digits b ds) (b ^ h) (b ^ length later) (first_number b h ds) (number_from_digits b later) (b ^ length ds) (b ^ length last) (first_number b h later) (number_from_digits b last) (omega (arith, g)) (block_is b h ds) (block_is b h later) in
-    cut_of (number_from_digits b ds) (b ^ h * b ^ h) (first_number b h ds * b ^ h + first_number b h later) more (b ^ length ds) (b ^ length last) (number_from_digits b last) (omega (arith, k)) e less
+    cut_of (number_from_digits b ds) (b ^ h * b ^ h) (first_number b h ds * b ^ h + first_number b h (drop h ds)) more (b ^ length ds) (b ^ length last) (number_from_digits b last) (omega (arith, k)) (digits_are b h ds some) less
 
 behind_by : (num den w n f d v more u q r : ℕ) → 0 < f → num * f ≡ (w * f + n) * u * den → IsCut n d v more f → v * u ≡ q * d + r → IsBehind num den d r (more * u)
 behind_by num den w n f d v more u q r some number c split =

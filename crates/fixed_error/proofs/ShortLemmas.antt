@@ -56,7 +56,7 @@ never_two : (x : Option Exponent) → is_power_of_two Dec x ≡ false
 never_two None = refl
 never_two (Some x) = refl
 
-decimal_places : (p : Parts) (negative : Bool) (whole fraction places : ℕ) (exponent : ℤ) (two : Bool) → IsShortNumeral Dec p negative whole fraction places exponent two → exponent ≡ pos 0
+pub decimal_places : (p : Parts) (negative : Bool) (whole fraction places : ℕ) (exponent : ℤ) (two : Bool) → IsShortNumeral Dec p negative whole fraction places exponent two → exponent ≡ pos 0
     → (magnitude Dec p).num * 10 ^ places ≡ (whole * 10 ^ places + fraction) * (magnitude Dec p).den
 decimal_places p negative whole fraction places exponent two h e =
     let digits : ℕ = whole * 10 ^ places + fraction in

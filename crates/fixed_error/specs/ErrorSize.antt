@@ -66,3 +66,11 @@ pub record IsReadWithin (mode : ReadMode) (r : Radix) (f : ℕ) (bytes : List �
   pub number : ℤ
   pub read : IsReadNumber mode r parts f number
   pub within : read.ulps < 2 ^ 64
+
+-- bytes are a numeral that is rounded to n ulps of 2^-f
+pub record HasSteps (mode : ReadMode) (r : Radix) (f : ℕ) (bytes : List ℕ) (n : ℕ) : Type 0 where
+  pub parts : Parts
+  pub numeral : HasNumeral r bytes parts
+  pub number : ℤ
+  pub read : IsReadNumber mode r parts f number
+  pub steps_are : read.ulps ≡ n

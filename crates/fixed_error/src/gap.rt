@@ -3,8 +3,8 @@
 ghost use Rattle.std.specs.Prelude.{IsTrue, ◌↔◌, ◌≡◌, ◌+◌, ◌*◌, ◌%◌, ◌<◌, ◌≤◌, ◌^◌, length};
 ghost use Rattle.fixed_numeral.specs.Numeral.{HasNumeral, Parts};
 ghost use Rattle.fixed_numeral.specs.Scanned.{IsScanned, exponent_unit};
-ghost use Rattle.fixed_error.specs.ErrorSize.{IsReadWithin};
-ghost use Rattle.fixed_error.specs.Inner.Gap.{HasSteps, IsGap};
+ghost use Rattle.fixed_error.specs.ErrorSize.{HasSteps, IsReadWithin};
+ghost use Rattle.fixed_error.specs.Inner.Gap.{IsGap};
 
 use fixed_bits::{Format, ReadMode};
 use fixed_numeral::{Radix, Scanned};
@@ -26,7 +26,7 @@ pub struct Gap {
 
 /// Returns the whole number of ulps that a numeral is rounded to in a mode, in at most four steps for each byte, and
 /// 119.
-fn steps_in<L: Ledger>(
+pub fn steps_in<L: Ledger>(
     text: &[u8],
     radix: Radix,
     frac: u32,

@@ -39,7 +39,7 @@ pub enum Behind {
 pub const WORD_PARTS: u64 = 1_000_000_000_000_000_000;
 
 /// Returns the number of digits that are taken at a time.
-fn block_of(radix: Radix) -> u32
+pub fn block_of(radix: Radix) -> u32
     ensures { result ≡ block radix }
 {
     match radix {
@@ -51,7 +51,7 @@ fn block_of(radix: Radix) -> u32
 }
 
 /// Returns the radix to a power.
-fn power_of(radix: Radix, count: u32) -> u128
+pub fn power_of(radix: Radix, count: u32) -> u128
     requires { count ≤ block radix }
     ensures value { result ≡ base radix ^ count }
     ensures small { result ≤ 2 ^ 60 }
@@ -65,7 +65,7 @@ fn power_of(radix: Radix, count: u32) -> u128
 }
 
 /// Returns the number that the first digits spell, padded with zeros if there are fewer, and the other digits.
-fn take_block<'a, L: Ledger>(
+pub fn take_block<'a, L: Ledger>(
     digits: &DigitView<'a>,
     radix: Radix,
     steps: &mut Steps<L>,
@@ -74,6 +74,7 @@ fn take_block<'a, L: Ledger>(
     ensures number { result.0 ≡ first_number (base radix) (block radix) digits.now }
     ensures small { result.0 ≤ 2 ^ 60 }
     ensures rest { result.1 ≡ drop (block radix) digits.now }
+    ensures cost { steps.new ≤ steps.old + 60 }
 {
     let block = block_of(radix);
     let taken = u64::from(block).min(digits.len()) as u32;

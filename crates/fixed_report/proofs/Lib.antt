@@ -1,1 +1,4 @@
 mod ReportLemmas
+mod SumLemmas
+mod MeanLemmas
+mod TextLemmas

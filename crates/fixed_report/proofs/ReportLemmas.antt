@@ -10,7 +10,7 @@ use Rattle.fixed_bits.specs.Ranges.{IsWide, IsWidth}
 use Rattle.fixed_bits.specs.declared.format.Policy.TheVariants.{Checked}
 use Rattle.fixed_bits.specs.declared.mode.ReadMode.{ReadMode}
 use Rattle.fixed_error.proofs.Public.{first_greatest_one}
-use Rattle.fixed_error.specs.ErrorSize.{IsReadWithin}
+use Rattle.fixed_error.specs.ErrorSize.{HasSteps, IsReadWithin}
 use Rattle.fixed_error.specs.Greatest.{Entry, HasGreatest, IsKept}
 use Rattle.fixed_error.specs.declared.greatest.GreatestError.{GreatestError}
 use Rattle.fixed_numeral.proofs.Public.{parts_unique}
@@ -38,6 +38,21 @@ in_within mode r f bytes bits out width h = record {
   number = h.number;
   read = h.read;
   within = few_ulps (is_minus h.parts.sign) h.read.ulps (subst (λ (v : ℤ). IsWide v) h.read.value (in_wide f.signed f.width h.number width.most h.image.in_range));
+}
+
+same_size : (a b : Bool) (m n : ℕ) → with_sign a m ≡ with_sign b n → n ≡ m
+same_size true true m n e = omega (arith, ints, e)
+same_size true false m n e = omega (arith, ints, e)
+same_size false true m n e = omega (arith, ints, e)
+same_size false false m n e = omega (arith, ints, e)
+
+pub ulps_of : (mode : ReadMode) (r : Radix) (f : FormatParts) (bytes : List ℕ) (negative : Bool) (ulps : ℕ) (out : Bool) → IsReadAs mode r bytes f Checked (with_sign negative ulps) out → HasSteps mode r f.frac bytes ulps
+ulps_of mode r f bytes negative ulps out h = record {
+  parts = h.parts;
+  numeral = h.numeral;
+  number = h.number;
+  read = h.read;
+  steps_are = same_size negative (is_minus h.parts.sign) ulps h.read.ulps (h.image.same ∙ h.read.value);
 }
 
 -- ---- one more numeral

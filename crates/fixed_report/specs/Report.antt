@@ -1,13 +1,17 @@
 -- The numeral with the greatest error in a format, among numerals that come one after another.
-use Rattle.std.specs.Prelude.{◌≡◌, ◌⊎◌, ◌≤◌, ◌<◌, ℕ, ℤ, Bool, List, [], ◌∷◌, length, Option, None, Some}
+use Rattle.std.specs.Prelude.{◌≡◌, ◌⊎◌, ◌≤◌, ◌<◌, ◌-◌, ◌^◌, ℕ, ℤ, Bool, List, [], ◌∷◌, length, Option, None, Some}
 use Rattle.fixed_bits.specs.Formats.{FormatParts}
 use Rattle.fixed_bits.specs.declared.format.Policy.TheVariants.{Checked}
 use Rattle.fixed_bits.specs.declared.mode.ReadMode.{ReadMode}
+use Rattle.fixed_error.specs.Cut.{IsCutError}
 use Rattle.fixed_error.specs.Greatest.{Entry, HasGreatest, HasSomeGreatest, IsKept}
+use Rattle.fixed_error.specs.declared.cut.CutError.{CutError}
 use Rattle.fixed_error.specs.declared.greatest.GreatestError.{GreatestError}
 use Rattle.fixed_numeral.specs.declared.radix.Radix.{Radix}
+use Rattle.fixed_report.specs.Sums.{AreSums, HasSomeSums}
 use Rattle.fixed_report.specs.declared.report.Lost.{Lost}
 use Rattle.fixed_report.specs.declared.report.Lost.TheVariants.{TooLong}
+use Rattle.fixed_report.specs.declared.sums.ErrorSums.{ErrorSums}
 use Rattle.fixed_show.specs.ShowBlock.{HasNoBits, IsReadAs}
 
 -- `bytes` are a numeral in range of the format after reading
@@ -32,24 +36,36 @@ abbrev pub HasReport : ReadMode → Radix → FormatParts → List Entry → Opt
 HasReport mode r f entries lost g = lost ≡ None → (found : List Entry) × AreIn mode r f entries found
     × HasGreatest found g
 
+-- `errors` are the cut errors of the entries
+abbrev pub AreCut : ReadMode → Radix → ℕ → List Entry → List CutError → Type 0
+AreCut mode r f [] errors = errors ≡ []
+AreCut mode r f (e ∷ es) errors = (error : CutError) × (more : List CutError) × (errors ≡ error ∷ more)
+    × IsCutError mode r f e.numeral error × AreCut mode r f es more
+
+-- the sums are those of the errors of these entries, unless the sums are full or the report was lost
+abbrev pub HasSums : ReadMode → Radix → FormatParts → List Entry → Option Lost → ErrorSums → Type 0
+HasSums mode r f entries lost sums = lost ≡ None → sums.count < 2 ^ 64 - 1 → (found : List Entry)
+    × AreIn mode r f entries found × (errors : List CutError) × AreCut mode r f.frac found errors × AreSums errors sums
+
 -- the longest numeral kept, in bytes
 abbrev pub longest_kept : ℕ
 longest_kept = 1048577
 
--- the most steps that one more numeral costs, for each of its bytes and besides them: it is read, and compared with the
--- longest numeral kept
+-- the most steps that one more numeral costs, for each of its bytes and besides them: it is read, its error is cut, and
+-- it is compared with the longest numeral kept
 abbrev pub add_per_byte : ℕ
-add_per_byte = 28
+add_per_byte = 43
 
 abbrev pub add_extra : ℕ
-add_extra = 20972460
+add_extra = 20973313
 
--- the state: how numerals are read, the numeral with the greatest error, and why it is not known
+-- the state: how numerals are read, the numeral with the greatest error, the sums, and why they are not known
 pub record Kept : Type 0 where
   pub radix : Radix
   pub format : FormatParts
   pub mode : ReadMode
   pub greatest : GreatestError
+  pub sums : ErrorSums
   pub lost : Option Lost
 
 -- the state is that of some numerals
@@ -58,6 +74,7 @@ pub record IsSound (k : Kept) : Type 0 where
   pub frac : k.greatest.frac ≡ k.format.frac
   pub mode : k.greatest.mode ≡ k.mode
   pub known : k.lost ≡ None → HasSomeGreatest k.greatest
+  pub sums : HasSomeSums k.sums
   pub short : length k.greatest.numeral.items ≤ longest_kept
 
 -- why the report is lost after one more numeral: an earlier reason stays; a numeral in range that is too long to keep

@@ -4,8 +4,12 @@
 #![tactic(auto)]
 
 pub mod laws;
+pub mod means;
 pub mod report;
+pub mod sums;
 pub mod text;
 
+pub use means::{Mean, SixDigits};
 pub use report::{ErrorReport, Lost};
-pub use text::MAX_GREATEST;
+pub use sums::ErrorSums;
+pub use text::{MAX_GREATEST, MAX_MEAN, MeanTexts};

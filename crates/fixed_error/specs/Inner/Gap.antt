@@ -10,14 +10,6 @@ use Rattle.fixed_error.specs.declared.gap.Gap.{Gap}
 use Rattle.fixed_error.specs.declared.greater.Part.{Part}
 use Rattle.fixed_error.specs.declared.sums.Sum.{Sum}
 
--- bytes are a numeral that is rounded to n ulps
-pub record HasSteps (mode : ReadMode) (r : Radix) (f : ℕ) (bytes : List ℕ) (n : ℕ) : Type 0 where
-  pub parts : Parts
-  pub numeral : HasNumeral r bytes parts
-  pub number : ℤ
-  pub read : IsReadNumber mode r parts f number
-  pub steps_are : read.ulps ≡ n
-
 -- the gap between num / den and a number of ulps, from the fraction number / power
 pub record IsGapOf (num den ulps power number : ℕ) (gap : Gap) : Type 0 where
   pub sum : ulps * den * power + gap.unit * number * den ≡ num * power + gap.whole * power * den

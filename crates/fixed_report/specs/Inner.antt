@@ -1,0 +1,2 @@
+-- Contracts of private functions. No public contract cites them.
+pub mod Scaled
