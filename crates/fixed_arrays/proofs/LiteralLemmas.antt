@@ -144,8 +144,3 @@ lines_more r all i c start old new at before is =
 
 pub lines_all : (r : Frame) (all : List ConstantParts) (i : ℕ) (start text : List ℕ) → slice_get all i ≡ None → start ++ literal_lines r 0 all ≡ text ++ literal_lines r i (drop i all) → text ≡ start ++ literal_lines r 0 all
 lines_all r all i start text at before = sym (before ∙ (ap (λ t. text ++ literal_lines r i t) (drop_none all i at) ∙ append-nil text))
-
--- ---- the text of a fault
-pub five_pieces : (a n b f l t u v w x : List ℕ) → t ≡ a → u ≡ t ++ n → v ≡ u ++ b → w ≡ v ++ f → x ≡ w ++ l → x ≡ a ++ (n ++ (b ++ (f ++ l)))
-five_pieces a n b f l t u v w x p q r s e =
-    e ∙ (ap (λ i. i ++ l) s ∙ (append_assoc v f l ∙ (ap (λ i. i ++ (f ++ l)) r ∙ (append_assoc u b (f ++ l) ∙ (ap (λ i. i ++ (b ++ (f ++ l))) q ∙ (append_assoc t n (b ++ (f ++ l)) ∙ ap (λ i. i ++ (n ++ (b ++ (f ++ l)))) p))))))

@@ -2,14 +2,16 @@
 
 ghost use Rattle.std.specs.Prelude.{◌≡◌, IfOk, true};
 ghost use Rattle.fixed_arrays.specs.Literals.{IsLiteralArrayAnswer, frame_for, literals_fault_line};
+ghost use Rattle.fixed_arrays.specs.Literals.{other_format_line};
 ghost use Rattle.fixed_arrays.specs.Inner.Literals.{AreInRange};
 ghost use Rattle.fixed_arrays.specs.Table.{literals_text};
 ghost use Rattle.fixed_arrays.specs.Lemmas.LiteralLemmas.{literal_answer_one};
+ghost use Rattle.line_engine.specs.Refusals.{reply_of};
 
 use crate::fault::LiteralsFault;
 use crate::form::ArrayForm;
 use crate::literals::{
-    fault_without_format, first_format, literal_elements, literals_fault_text, read_of_format,
+    fault_without_format, first_format, literal_elements, other_format_cause, read_of_format,
 };
 use crate::text::{Frame, array_text};
 use fixed_bits::Format;
@@ -56,18 +58,31 @@ fn array_of<L: Ledger>(
     array_text(alloc, frame, &elements, steps)
 }
 
-/// Returns the answer that names a fault.
+/// Returns the refusal of a file for a literal of another format than the first.
+fn other_format(alloc: Global, line: u64, first: Format) -> Result<WholeAnswer, NoMemory>
+    ensures text { IfOk result (λ answer. (reply_of answer).text ≡ other_format_line line first) }
+    ensures fault { IfOk result (λ answer. (reply_of answer).fault ≡ true) }
+{
+    match other_format_cause(alloc, first) {
+        Ok(cause) => Ok(WholeAnswer::Refused {
+            number: line,
+            cause,
+        }),
+        Err(_) => Err(NoMemory),
+    }
+}
+
+/// Returns the refusal of a file for a fault.
 fn refusal(alloc: Global, fault: LiteralsFault) -> Result<WholeAnswer, NoMemory>
     ensures memory { IfOk result (λ answer. ¬ (fault ≡ LiteralsFault.NoMemory)) }
-    ensures text { IfOk result (λ answer. answer.text ≡ literals_fault_line fault) }
-    ensures fault { IfOk result (λ answer. answer.fault ≡ true) }
+    ensures text { IfOk result (λ answer. (reply_of answer).text ≡ literals_fault_line fault) }
+    ensures fault { IfOk result (λ answer. (reply_of answer).fault ≡ true) }
 {
-    if fault == LiteralsFault::NoMemory {
-        return Err(NoMemory);
-    }
-    match literals_fault_text(alloc, fault) {
-        Ok(text) => Ok(WholeAnswer::new(text, true)),
-        Err(_) => Err(NoMemory),
+    match fault {
+        LiteralsFault::Empty => WholeAnswer::refused(alloc, 1, b"no literal"),
+        LiteralsFault::Refused { line, fault } => fixed_constants::refusal(alloc, line, fault),
+        LiteralsFault::OtherFormat { line, first } => other_format(alloc, line, first),
+        LiteralsFault::NoMemory => Err(NoMemory),
     }
 }
 
@@ -85,7 +100,7 @@ impl<'a, L: Ledger> WholeRule<L> for LiteralArrayRule<'a> {
         };
         match read_of_format(alloc, input, format) {
             Ok(constants) => match array_of(alloc, &frame_for(self, format), &constants, steps) {
-                Ok(text) => Ok(WholeAnswer::new(text, false)),
+                Ok(text) => Ok(WholeAnswer::Text(text)),
                 Err(_) => Err(NoMemory),
             },
             Err(fault) => refusal(alloc, fault),

@@ -3,22 +3,21 @@
 //! The elements of an array have one type, so a literal of another format than the first is refused and not converted.
 //! The names are in comments, where no language reserves any. COE has no comments on its lines, and so no names.
 
-ghost use Rattle.std.specs.Prelude.{◌≡◌, ◌↔◌, ◌++◌, ℕ, IfErr, IfOk, OnOk, IsTrue, MatchOption, length};
+ghost use Rattle.std.specs.Prelude.{◌≡◌, ◌↔◌, ◌++◌, ℕ, IfErr, IfOk, OnOk, IsTrue, MatchOption, codes, length};
 ghost use Rattle.fixed_bits.specs.Formats.{FormatParts};
 ghost use Rattle.fixed_bits.specs.Ranges.{IsInRange};
+ghost use Rattle.fixed_respell.specs.Words.{format_text};
 ghost use Rattle.line_engine.specs.Lines.{lines};
 ghost use Rattle.fixed_arrays.specs.Literals.{HasFirstFormat, HasFormat, HasOther, OtherFrom};
-ghost use Rattle.fixed_arrays.specs.Literals.{literals_fault_line, other_format_line};
 ghost use Rattle.fixed_arrays.specs.Inner.Literals.{AreInRange, AreLiterals, HasLiteralsError};
 ghost use Rattle.fixed_arrays.specs.Table.{element_line, literal_lines};
 
 use crate::elements::Elements;
 use crate::fault::LiteralsFault;
-use crate::slots::push_number;
 use crate::text::{Frame, push_element};
 use fixed_bits::Format;
 use fixed_constants::{
-    Constant, Constants, ConstantsError, fault_text, is_passed_over, read_constants, split_line,
+    Constant, Constants, ConstantsError, is_passed_over, read_constants, split_line,
 };
 use fixed_respell::{format_name, format_word};
 use fixed_steps::Steps;
@@ -179,27 +178,12 @@ pub fn literal_elements<L: Ledger>(
     })
 }
 
-/// Returns the text for a literal of another format than the first.
-fn other_format_text(alloc: Global, line: u64, first: Format) -> Result<Vec<u8>, AllocError>
-    ensures { IfOk result (λ text. text.items ≡ other_format_line line first) }
+/// Returns why a literal of another format than the first is refused.
+pub fn other_format_cause(alloc: Global, first: Format) -> Result<Vec<u8>, AllocError>
+    ensures { IfOk result (λ cause. cause.items ≡ codes "another format than " ++ format_text first) }
 {
-    let mut text = Vec::new(alloc);
-    text.extend_from_slice(b"error: line ")?;
-    push_number(&mut text, line)?;
-    text.extend_from_slice(b": another format than ")?;
-    text.extend_from_slice(format_name(first).as_bytes())?;
-    text.push(b'\n')?;
-    Ok(text)
-}
-
-/// Returns the text for a fault.
-pub fn literals_fault_text(alloc: Global, fault: LiteralsFault) -> Result<Vec<u8>, AllocError>
-    ensures { IfOk result (λ text. text.items ≡ literals_fault_line fault) }
-{
-    match fault {
-        LiteralsFault::Empty => b"error: line 1: no literal\n".to_vec(alloc),
-        LiteralsFault::Refused { line, fault } => fault_text(alloc, line, fault),
-        LiteralsFault::OtherFormat { line, first } => other_format_text(alloc, line, first),
-        LiteralsFault::NoMemory => Ok(Vec::new(alloc)),
-    }
+    let mut cause = Vec::new(alloc);
+    cause.extend_from_slice(b"another format than ")?;
+    cause.extend_from_slice(format_name(first).as_bytes())?;
+    Ok(cause)
 }

@@ -3,11 +3,12 @@
 ghost use Rattle.std.specs.Prelude.{◌≡◌, IfOk, true};
 ghost use Rattle.fixed_arrays.specs.Answer.{IsArrayAnswer, fault_line};
 ghost use Rattle.fixed_arrays.specs.Lemmas.AnswerLemmas.{array_answer_one};
+ghost use Rattle.line_engine.specs.Refusals.{reply_of};
 
 use crate::elements::read_elements;
 use crate::fault::ArrayFault;
 use crate::form::ArrayForm;
-use crate::text::{array_text, fault_text, frame_of};
+use crate::text::{array_text, frame_of};
 use fixed_bits::{Format, Policy, ReadMode};
 use fixed_command::Layout;
 use fixed_numeral::Radix;
@@ -44,14 +45,17 @@ pub struct ArrayRule<'a> {
     pub layout: &'a Option<Layout>,
 }
 
-/// Returns the answer that names a fault.
+/// Returns the refusal of a list for a fault.
 fn refusal(alloc: Global, fault: ArrayFault) -> Result<WholeAnswer, NoMemory>
-    ensures text { IfOk result (λ answer. answer.text ≡ fault_line fault) }
-    ensures fault { IfOk result (λ answer. answer.fault ≡ true) }
+    ensures text { IfOk result (λ answer. (reply_of answer).text ≡ fault_line fault) }
+    ensures fault { IfOk result (λ answer. (reply_of answer).fault ≡ true) }
 {
-    match fault_text(alloc, fault) {
-        Ok(text) => Ok(WholeAnswer::new(text, true)),
-        Err(_) => Err(NoMemory),
+    match fault {
+        ArrayFault::Empty => WholeAnswer::refused(alloc, 1, b"no numeral"),
+        ArrayFault::Refused { place, error } => {
+            WholeAnswer::refused(alloc, place, error.message().as_bytes())
+        }
+        ArrayFault::NoMemory => Err(NoMemory),
     }
 }
 
@@ -66,7 +70,7 @@ impl<'a, L: Ledger> WholeRule<L> for ArrayRule<'a> {
     ) -> Result<WholeAnswer, NoMemory> {
         match read_elements(alloc, self, input, steps) {
             Ok(elements) => match array_text(alloc, &frame_of(self), &elements, steps) {
-                Ok(text) => Ok(WholeAnswer::new(text, false)),
+                Ok(text) => Ok(WholeAnswer::Text(text)),
                 Err(_) => Err(NoMemory),
             },
             Err(ArrayFault::NoMemory) => Err(NoMemory),

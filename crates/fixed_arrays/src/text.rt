@@ -2,15 +2,14 @@
 
 ghost use Rattle.std.specs.Prelude.{◌≡◌, ◌++◌, IfOk, OnOk, pos};
 ghost use Rattle.fixed_bits.specs.Ranges.{IsInRange, IsWide};
-ghost use Rattle.fixed_arrays.specs.Answer.{fault_line, frame_of};
+ghost use Rattle.fixed_arrays.specs.Answer.{frame_of};
 ghost use Rattle.fixed_arrays.specs.Table.{around, element_line, head, tail};
 ghost use Rattle.fixed_arrays.specs.Slots.{parts_of};
 
 use crate::elements::Elements;
-use crate::fault::ArrayFault;
 use crate::form::ArrayForm;
 use crate::rule::ArrayRule;
-use crate::slots::{Filling, push_filled, push_number};
+use crate::slots::{Filling, push_filled};
 use crate::table::{closing_of, element_of, opening_of};
 use fixed_bits::Format;
 use fixed_steps::Steps;
@@ -98,24 +97,5 @@ pub fn array_text<L: Ledger>(
     push_filled(&mut text, &filling, opening_of(frame.form), steps)?;
     text.extend_from_slice(&elements.text)?;
     push_filled(&mut text, &filling, closing_of(frame.form), steps)?;
-    Ok(text)
-}
-
-/// Returns the text for a fault.
-pub fn fault_text(alloc: Global, fault: ArrayFault) -> Result<Vec<u8>, AllocError>
-    ensures { IfOk result (λ text. text.items ≡ fault_line fault) }
-{
-    let mut text = Vec::new(alloc);
-    match fault {
-        ArrayFault::Empty => text.extend_from_slice(b"error: line 1: no numeral\n")?,
-        ArrayFault::Refused { place, error } => {
-            text.extend_from_slice(b"error: line ")?;
-            push_number(&mut text, place)?;
-            text.extend_from_slice(b": ")?;
-            text.extend_from_slice(error.message().as_bytes())?;
-            text.push(b'\n')?;
-        }
-        ArrayFault::NoMemory => {}
-    }
     Ok(text)
 }

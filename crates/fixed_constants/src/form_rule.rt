@@ -4,12 +4,13 @@ ghost use Rattle.std.specs.Prelude.{◌≡◌, ℕ, IfOk, IfErr};
 ghost use Rattle.fixed_constants.specs.Constants.{IsConstantsOf};
 ghost use Rattle.fixed_constants.specs.Forms.{IsFormAnswer, IsFormError, IsReservedOn, IsSourceAnswer};
 ghost use Rattle.fixed_constants.specs.Lemmas.FormLemmas.{form_answer_one};
+ghost use Rattle.line_engine.specs.Refusals.{reply_of};
 
 use crate::constant::Constants;
 use crate::constants::read_constants;
 use crate::fault::{ConstantFault, ConstantsError};
 use crate::form::{Form, first_reserved};
-use crate::rule::{ConstantsRule, fault_text};
+use crate::rule::{ConstantsRule, refusal};
 use crate::sources::source_text;
 use fixed_steps::Steps;
 use line_engine::{WholeAnswer, WholeRule};
@@ -75,17 +76,14 @@ fn answer<L: Ledger>(
     input: &[u8],
     steps: &mut Steps<L>,
 ) -> Result<WholeAnswer, NoMemory>
-    ensures { IfOk result (λ answer. IsSourceAnswer form guard.now input.now answer) }
+    ensures { IfOk result (λ answer. IsSourceAnswer form guard.now input.now (reply_of answer)) }
 {
     match constants_for(alloc, form, guard, input) {
         Ok(constants) => match source_text(alloc, form, guard, &constants, steps) {
-            Ok(text) => Ok(WholeAnswer::new(text, false)),
+            Ok(text) => Ok(WholeAnswer::Text(text)),
             Err(_) => Err(NoMemory),
         },
-        Err(ConstantsError::Refused { line, fault }) => match fault_text(alloc, line, fault) {
-            Ok(text) => Ok(WholeAnswer::new(text, true)),
-            Err(_) => Err(NoMemory),
-        },
+        Err(ConstantsError::Refused { line, fault }) => refusal(alloc, line, fault),
         Err(ConstantsError::NoMemory) => Err(NoMemory),
     }
 }

@@ -27,6 +27,6 @@ pub use form::{Form, is_among, is_reserved};
 pub use form_rule::FormRule;
 pub use plain::PlainRule;
 pub use program::{is_guard, run_constants};
-pub use rule::{ConstantsRule, fault_text};
+pub use rule::{ConstantsRule, refusal};
 pub use sources::{push_c_number, push_hexadecimal};
 pub use text_buffer::NoMemory;

@@ -1,8 +1,9 @@
 //! The rule of the program: it answers a constants file with its canonical text.
 
-ghost use Rattle.std.specs.Prelude.{◌≡◌, ◌++◌, IfOk, OnOk};
+ghost use Rattle.std.specs.Prelude.{◌≡◌, ◌++◌, IfOk, OnOk, true};
 ghost use Rattle.fixed_constants.specs.Answer.{IsWholeAnswer, fault_line, fault_message};
 ghost use Rattle.fixed_constants.specs.Lemmas.ConstantsLemmas.{answer_one};
+ghost use Rattle.line_engine.specs.Refusals.{reply_of};
 
 use crate::canonical::write_constants;
 use crate::constants::read_constants;
@@ -37,18 +38,18 @@ fn push_message(text: &mut Vec<u8>, fault: ConstantFault) -> Result<(), AllocErr
     Ok(())
 }
 
-/// Returns the text for a line with a fault.
-pub fn fault_text(alloc: Global, line: u64, fault: ConstantFault) -> Result<Vec<u8>, AllocError>
-    ensures { IfOk result (λ text. text.items ≡ fault_line line fault) }
+/// Returns the refusal of a file for a line with a fault.
+pub fn refusal(alloc: Global, line: u64, fault: ConstantFault) -> Result<WholeAnswer, NoMemory>
+    ensures { IfOk result (λ answer. reply_of answer ≡ record { text = fault_line line fault; fault = true }) }
 {
-    let mut digits = Buffer::new();
-    let mut text = Vec::new(alloc);
-    text.extend_from_slice(b"error: line ")?;
-    text.extend_from_slice(digits.format(line).as_bytes())?;
-    text.extend_from_slice(b": ")?;
-    push_message(&mut text, fault)?;
-    text.push(b'\n')?;
-    Ok(text)
+    let mut cause = Vec::new(alloc);
+    match push_message(&mut cause, fault) {
+        Ok(()) => Ok(WholeAnswer::Refused {
+            number: line,
+            cause,
+        }),
+        Err(_) => Err(NoMemory),
+    }
 }
 
 impl<L: Ledger> WholeRule<L> for ConstantsRule {
@@ -62,13 +63,10 @@ impl<L: Ledger> WholeRule<L> for ConstantsRule {
     ) -> Result<WholeAnswer, NoMemory> {
         match read_constants(alloc, input) {
             Ok(constants) => match write_constants(alloc, &constants) {
-                Ok(text) => Ok(WholeAnswer::new(text.into_bytes(), false)),
+                Ok(text) => Ok(WholeAnswer::Text(text.into_bytes())),
                 Err(NoMemory) => Err(NoMemory),
             },
-            Err(ConstantsError::Refused { line, fault }) => match fault_text(alloc, line, fault) {
-                Ok(text) => Ok(WholeAnswer::new(text, true)),
-                Err(_) => Err(NoMemory),
-            },
+            Err(ConstantsError::Refused { line, fault }) => refusal(alloc, line, fault),
             Err(ConstantsError::NoMemory) => Err(NoMemory),
         }
     }

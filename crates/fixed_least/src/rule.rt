@@ -1,15 +1,15 @@
 //! The rule of the program. It answers an input with the least format of its lines, and the lines that refute lesser
 //! ones.
 
-ghost use Rattle.std.specs.Prelude.{◌≡◌, ◌++◌, IfOk, OnOk};
+ghost use Rattle.std.specs.Prelude.{◌≡◌, ◌++◌, IfOk, OnOk, true};
 ghost use Rattle.line_engine.specs.Output.{reply_line};
+ghost use Rattle.line_engine.specs.Refusals.{reply_of};
 ghost use Rattle.fixed_least.specs.Least.{IsLeastText, IsWholeAnswer, fault_line};
 ghost use Rattle.fixed_least.specs.Lemmas.LeastLemmas.{answer_one};
 
 use crate::least::{Least, LeastFault, least_format};
 use fixed_numeral::Radix;
 use fixed_steps::Steps;
-use itoa::Buffer;
 use line_engine::{Answer, WholeAnswer, WholeRule};
 use std::alloc::{AllocError, Global};
 use std::sync::ledger::Ledger;
@@ -45,19 +45,12 @@ fn least_text(alloc: Global, least: &Least) -> Result<Vec<u8>, AllocError>
     Ok(text)
 }
 
-/// Returns the answer for a line that is not a numeral.
-fn fault_text(alloc: Global, fault: LeastFault) -> Result<Vec<u8>, AllocError>
-    ensures { IfOk result (λ text. text.items ≡ fault_line fault) }
+/// Returns the refusal of an input with a line that is not a numeral.
+fn refusal(alloc: Global, fault: LeastFault) -> Result<WholeAnswer, NoMemory>
+    ensures { IfOk result (λ answer. reply_of answer ≡ record { text = fault_line fault; fault = true }) }
 {
     let LeastFault::NotNumeral { place, error } = fault;
-    let mut digits = Buffer::new();
-    let mut text = Vec::new(alloc);
-    text.extend_from_slice(b"error: line ")?;
-    text.extend_from_slice(digits.format(place).as_bytes())?;
-    text.extend_from_slice(b": ")?;
-    text.extend_from_slice(error.message().as_bytes())?;
-    text.push(b'\n')?;
-    Ok(text)
+    WholeAnswer::refused(alloc, place, error.message().as_bytes())
 }
 
 impl<L: Ledger> WholeRule<L> for LeastRule {
@@ -71,13 +64,10 @@ impl<L: Ledger> WholeRule<L> for LeastRule {
     ) -> Result<WholeAnswer, NoMemory> {
         match least_format(input, self.radix, steps) {
             Ok(least) => match least_text(alloc, &least) {
-                Ok(text) => Ok(WholeAnswer::new(text, false)),
+                Ok(text) => Ok(WholeAnswer::Text(text)),
                 Err(_) => Err(NoMemory),
             },
-            Err(fault) => match fault_text(alloc, fault) {
-                Ok(text) => Ok(WholeAnswer::new(text, true)),
-                Err(_) => Err(NoMemory),
-            },
+            Err(fault) => refusal(alloc, fault),
         }
     }
 

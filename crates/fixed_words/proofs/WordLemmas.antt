@@ -1,5 +1,5 @@
 -- Words converted one byte after the other.
-use Rattle.std.proofs.Common.{◌≡◌, ◌∙◌, ◌||◌, ◌<◌, ◌≤◌, ℕ, Bool, true, false, List, [], ◌∷◌, ◌++◌, length, nat_le, refl, sym, ap, subst, arith, append-nil, append_assoc, ⊎_elim}
+use Rattle.std.proofs.Common.{◌≡◌, ◌==◌, ◌+◌, ◌∙◌, ◌⊎◌, ◌||◌, ◌<◌, ◌≤◌, ℕ, zero, suc, inl, inr, Option, None, Some, take, true≢false, length-append, Bool, true, false, List, [], ◌∷◌, ◌++◌, length, nat_le, refl, sym, ap, subst, arith, append-nil, append_assoc, ⊎_elim}
 use Rattle.std.proofs.lemmas.Bool.{cases_lt}
 use Rattle.std.proofs.lemmas.Bool.Decides.{nat_tests}
 use Rattle.std.proofs.KnownBytes.{Appends-nil}
@@ -14,8 +14,10 @@ use Rattle.fixed_respell.specs.Answer.{fault_message}
 use Rattle.fixed_respell.specs.Language.{fault_answer}
 use Rattle.fixed_respell.specs.LineWords.{longest_line}
 use Rattle.fixed_respell.specs.declared.fault.LineFault.TheVariants.{LineTooLong}
-use Rattle.fixed_words.specs.Inner.Progress.{EndsWord, TakesByte}
-use Rattle.fixed_words.specs.Run.{GoesOn, IsKept, MakesBy, is_piece}
+use Rattle.fixed_command.specs.Watched.{kept_bytes}
+use Rattle.fixed_words.specs.Inner.Progress.{AddsByte, EndsBy, EndsWord, Passes, TakesByte}
+use Rattle.fixed_words.specs.Noted.{IsAtSamePlace, IsFirst, IsFirstAfter, IsRefusal, Spot, after_byte, origin, refused_after, refused_in, spot_after, spot_of}
+use Rattle.fixed_words.specs.Run.{Ends, GoesOn, IsKept, MakesBy, is_piece, last_word}
 use Rattle.fixed_words.specs.Words.{AreEnded, Ended, HasNoSeparator, IsEnded, IsWordReply, IsWorded, answer_of, any_refused, bytes_of, is_left, is_refused, is_separator, longest_left, shown, written_of}
 use Rattle.fixed_words.specs.declared.rule.Ending.{Ending}
 use Rattle.fixed_words.specs.declared.rule.Ending.TheVariants.{Converted, Left, Refused}
@@ -23,6 +25,7 @@ use Rattle.fixed_words.specs.declared.rule.Leaving.{Leaving}
 use Rattle.fixed_words.specs.declared.rule.Leaving.TheVariants.{Everything, NoNumerals, Nothing}
 use Rattle.fixed_words.specs.declared.rule.WordRule.{WordRule}
 use Rattle.fixed_words.specs.declared.splitter.WordBytes.{WordBytes}
+use Rattle.fixed_words.specs.declared.splitter.WordRefusal.{WordRefusal}
 use Rattle.fixed_words.specs.declared.splitter.Words.{Words}
 
 -- ---- one more word
@@ -115,6 +118,97 @@ reply_kept s word kept reply k h = ⊎_elim
     (λ (most : length word ≤ longest_line). subst (λ w. IsWordReply s w reply) (k.whole most) h)
     (cases_lt longest_line (length word))
 
+-- ---- the bytes of a word that are kept
+take_more : (n : ℕ) (a b : List ℕ) → n ≤ length a → take n (a ++ b) ≡ take n a
+take_more zero a b most = refl
+take_more (suc n) [] b most = absurd (omega (arith, most))
+take_more (suc n) (x ∷ xs) b most = ap (λ l. x ∷ l) (take_more n xs b (omega (arith, most)))
+
+-- a byte is kept while there is room
+pub keep_more : (word kept : List ℕ) (b : ℕ) → length kept < longest_line → IsKept word kept → IsKept (word ++ b ∷ []) (kept ++ b ∷ [])
+keep_more word kept b room k =
+    let same : kept ≡ word = k.whole (within word kept room k) in
+    record {
+      whole = λ _. ap (λ w. w ++ b ∷ []) same;
+      full = λ many. subst (λ w. longest_line ≤ length (w ++ b ∷ [])) (sym same) many;
+      first = ap (λ w. take kept_bytes (w ++ b ∷ [])) same;
+    }
+
+-- and dropped after that
+pub keep_none : (word kept : List ℕ) (b : ℕ) → longest_line ≤ length kept → IsKept word kept → IsKept (word ++ b ∷ []) kept
+keep_none word kept b full k =
+    let many : longest_line ≤ length word = past word kept full k in
+    record {
+      whole = λ less. absurd (omega (arith, less, many, length-append word (b ∷ [])));
+      full = λ _. full;
+      first = k.first ∙ sym (take_more kept_bytes word (b ∷ []) (omega (arith, many)));
+    }
+
+-- ---- positions
+spot_append : (at : Spot) (a b : List ℕ) → spot_after at (a ++ b) ≡ spot_after (spot_after at a) b
+unfolding spot_after
+spot_append at [] b = refl
+spot_append at (x ∷ xs) b = spot_append (after_byte at x) xs b
+
+spot_more : (at : Spot) (a : List ℕ) (b : ℕ) → spot_after at (a ++ b ∷ []) ≡ after_byte (spot_after at a) b
+unfolding spot_after
+spot_more at a b = spot_append at a (b ∷ [])
+
+not_ten : (others : List ℕ) (b : ℕ) (c : Bool) → (b == 10) ≡ c → is_separator others b ≡ false → c ≡ false
+not_ten others b true is inner = let ten : b ≡ 10 = grind (arith, nat_tests, is) in absurd (true≢false (subst (λ n. is_separator others n ≡ false) ten inner))
+not_ten others b false is inner = refl
+
+no_newline : (others : List ℕ) (b : ℕ) → is_separator others b ≡ false → (b == 10) ≡ false
+no_newline others b inner = not_ten others b (b == 10) refl inner
+
+-- a word has no newline, and so stands in one line
+line_within : (others : List ℕ) (at : Spot) (word : List ℕ) → HasNoSeparator others word → (spot_after at word).line ≡ at.line
+unfolding spot_after
+line_within others at [] none = refl
+line_within others at (b ∷ bytes) none = line_within others (after_byte at b) bytes none.1 ∙ rw (no_newline others b none.0) refl
+
+-- ---- the counts of refused words
+count_more : (n : ℕ) (es : List Ended) (e : Ended) → refused_in n (es ++ e ∷ []) ≡ refused_after e.reply.fault (refused_in n es)
+unfolding refused_in
+count_more n [] e = refl
+count_more n (c ∷ cs) e = count_more (refused_after c.reply.fault n) cs e
+
+after_some : (fault : Bool) (n : ℕ) → 0 < n → 0 < refused_after fault n
+after_some true n some = omega (arith, some)
+after_some false n some = some
+
+some_stay : (n : ℕ) (es : List Ended) → 0 < n → 0 < refused_in n es
+unfolding refused_in
+some_stay n [] some = some
+some_stay n (c ∷ cs) some = some_stay (refused_after c.reply.fault n) cs (after_some c.reply.fault n some)
+
+one_some : (fault : Bool) → fault ≡ true → 0 < refused_after fault 0
+one_some true is = omega arith
+one_some false is = absurd (true≢false (sym is))
+
+first_some : (c : Ended) (cs : List Ended) → c.reply.fault ≡ true → 0 < refused_in 0 (c ∷ cs)
+unfolding refused_in
+first_some c cs is = some_stay (refused_after c.reply.fault 0) cs (one_some c.reply.fault is)
+
+first_none : (c : Ended) (cs : List Ended) → c.reply.fault ≡ false → refused_in 0 (c ∷ cs) ≡ refused_in 0 cs
+unfolding refused_in
+first_none c cs clean = ap (λ f. refused_in (refused_after f 0) cs) clean
+
+-- the first refused word after one more word
+first_more : (es : List Ended) (e : Ended) (at : Spot) (old new : Option WordRefusal) → IsFirst es at old → (e.reply.fault ≡ true → refused_in 0 es ≡ 0 → IsRefusal e.word (spot_after at (bytes_of es)) new)
+    → ((e.reply.fault ≡ false) ⊎ (0 < refused_in 0 es) → new ≡ old) → IsFirst (es ++ e ∷ []) at new
+unfolding IsFirst spot_after refused_in
+first_more [] e at old new first taken kept = (λ is. taken is refl, λ clean. kept (inl clean) ∙ first)
+first_more (c ∷ cs) e at old new first taken kept = (
+  λ is. subst (λ f. IsRefusal c.word at f) (sym (kept (inr (first_some c cs is)))) (first.0 is),
+  λ clean.
+      let next : Spot = spot_after at (c.word ++ c.separator ∷ []) in
+      let apart : spot_after at (bytes_of (c ∷ cs)) ≡ spot_after next (bytes_of cs) = ap (spot_after at) (sym (append_assoc c.word (c.separator ∷ []) (bytes_of cs))) ∙ spot_append at (c.word ++ c.separator ∷ []) (bytes_of cs) in
+      first_more cs e next old new (first.1 clean)
+      (λ fault none. subst (λ q. IsRefusal e.word q new) apart (taken fault (first_none c cs clean ∙ none)))
+      (λ h. kept (⊎_elim (λ it. inl it) (λ some. inr (subst (λ n. 0 < n) (sym (first_none c cs clean)) some)) h)),
+)
+
 -- ---- the end of a word
 shown_fault : (ending : Ending) (s : WordRule) (word reply : List ℕ) → (shown ending s word reply).fault ≡ is_refused ending
 shown_fault Converted s word reply = refl
@@ -123,16 +217,24 @@ shown_fault Refused s word reply = refl
 
 -- a word that is not empty was answered
 pub ends_word : (s : WordRule) (word ends : List ℕ) (old new : Words) (reply : List ℕ) (fault : Bool) (ending : Ending) (Sent : List ℕ → Type 0) → 0 < length word → AppendsAnswer (IsReply s.rule) 192 word [] reply fault
-    → answer_of s word (record { text = reply; fault = fault }) ≡ shown ending s word reply → new.has_fault ≡ (old.has_fault || is_refused ending) → Sent ((shown ending s word reply).text ++ ends) → EndsWord s word ends old new Sent
-ends_word s word ends old new reply fault ending Sent some a is faulty sent =
+    → answer_of s word (record { text = reply; fault = fault }) ≡ shown ending s word reply → new.has_fault ≡ (old.has_fault || is_refused ending) → new.refused ≡ refused_after (is_refused ending) old.refused → IsFirstAfter (is_refused ending) old new.first
+    → IsAtSamePlace old new → Sent ((shown ending s word reply).text ++ ends) → EndsWord s word ends old new Sent
+ends_word s word ends old new reply fault ending Sent some a is faulty counted first place sent =
     let made : List ℕ → AnswerText = λ (t : List ℕ). record { text = t; fault = fault } in
     let replied : IsReply s.rule word (made reply) = subst (λ t. IsReply s.rule word (made t)) (sym a.appended) a.answer in
+    let same = sym (shown_fault ending s word reply) in
     record {
       reply = shown ending s word reply;
       replied = of_answer s word (shown ending s word reply) some (record { reply = made reply; replied = replied; is = sym is });
-      fault = faulty ∙ ap (λ b. old.has_fault || b) (sym (shown_fault ending s word reply));
+      fault = faulty ∙ ap (λ b. old.has_fault || b) same;
+      count = counted ∙ ap (λ b. refused_after b old.refused) same;
+      first = subst (λ b. IsFirstAfter b old new.first) same first;
+      place = place;
       sent = sent;
     }
+
+same_place : (u : Words) → IsAtSamePlace u u
+same_place u = record { line = refl; byte = refl; start = refl }
 
 -- an empty word
 pub ends_none : (s : WordRule) (ends : List ℕ) (u : Words) (Sent : List ℕ → Type 0) → u.word ≡ [] → Sent ends → EndsWord s u.word ends u u Sent
@@ -140,67 +242,110 @@ ends_none s ends u Sent none sent = record {
   reply = record { text = []; fault = false };
   replied = subst (λ w. IsWordReply s w (record { text = []; fault = false })) (sym none) refl;
   fault = sym (or_false u.has_fault);
+  count = refl;
+  first = record { taken = λ is. absurd (true≢false (sym is)); kept = λ _. refl };
+  place = same_place u;
   sent = sent;
 }
 
-pub ends_same : (s : WordRule) (word ends : List ℕ) (old mid new : Words) (Sent : List ℕ → Type 0) → new.has_fault ≡ mid.has_fault → EndsWord s word ends old mid Sent → EndsWord s word ends old new Sent
-ends_same s word ends old mid new Sent fault e = record { reply = e.reply; replied = e.replied; fault = fault ∙ e.fault; sent = e.sent }
-
--- ---- one more byte
--- the byte is part of a word
-pub takes_part : (s : WordRule) (b : ℕ) (old new : Words) (Sent : List ℕ → Type 0) → is_separator s.separators.now b ≡ false → ((word : List ℕ) → IsKept word old.word → IsKept (word ++ b ∷ []) new.word) → new.has_fault ≡ old.has_fault
-    → Sent [] → TakesByte s b old new Sent
-takes_part s b old new Sent inner kept fault sent = record {
-  more = [];
-  goes = λ bytes made h. record {
-    words = h.words;
-    are = h.are;
-    rest = h.rest ++ b ∷ [];
-    unbroken = unbroken_more s.separators.now h.rest b h.unbroken inner;
-    kept = kept h.rest h.kept;
-    cut = ap (λ w. w ++ b ∷ []) h.cut ∙ append_assoc (bytes_of h.words) h.rest (b ∷ []);
-    text_is = append-nil made ∙ h.text_is;
-    faulty = fault ∙ h.faulty;
-  };
-  sent = sent;
-}
-
--- the byte ends a word
-pub takes_end : (s : WordRule) (b : ℕ) (old new : Words) (Sent : List ℕ → Type 0) → is_separator s.separators.now b ≡ true → new.word ≡ [] → EndsWord s old.word (b ∷ []) old new Sent → TakesByte s b old new Sent
-takes_end s b old new Sent ends word e = record {
-  more = e.reply.text ++ b ∷ [];
-  goes = λ bytes made h.
-      let ended : Ended = record { word = h.rest; separator = b; reply = e.reply } in
-      let more : List Ended = h.words ++ ended ∷ [] in
-      record {
-        words = more;
-        are = are_more s h.words ended h.are (record { unbroken = h.unbroken; separates = ends; replied = reply_kept s h.rest old.word e.reply h.kept e.replied });
-        rest = [];
-        unbroken = tt;
-        kept = record { whole = λ _. word; full = λ many. absurd (omega (arith, many)) };
-        cut = ap (λ w. w ++ b ∷ []) h.cut ∙ (append_assoc (bytes_of h.words) h.rest (b ∷ []) ∙ (sym (bytes_more h.words ended) ∙ sym (append-nil (bytes_of more))));
-        text_is = ap (λ l. l ++ (e.reply.text ++ b ∷ [])) h.text_is ∙ sym (written_more h.words ended);
-        faulty = e.fault ∙ (ap (λ f. f || e.reply.fault) h.faulty ∙ sym (refused_more h.words ended));
-      };
+-- what is kept of the word itself does not matter
+pub ends_same : (s : WordRule) (word ends : List ℕ) (old mid new : Words) (Sent : List ℕ → Type 0) → new.has_fault ≡ mid.has_fault → new.refused ≡ mid.refused → new.first ≡ mid.first → IsAtSamePlace mid new → EndsWord s word ends old mid Sent
+    → EndsWord s word ends old new Sent
+ends_same s word ends old mid new Sent fault refused first place e = record {
+  reply = e.reply;
+  replied = e.replied;
+  fault = fault ∙ e.fault;
+  count = refused ∙ e.count;
+  first = subst (λ f. IsFirstAfter e.reply.fault old f) (sym first) e.first;
+  place = record { line = place.line ∙ e.place.line; byte = place.byte ∙ e.place.byte; start = place.start ∙ e.place.start };
   sent = e.sent;
 }
 
-pub takes_same : (s : WordRule) (b : ℕ) (old mid new : Words) (Sent : List ℕ → Type 0) → new.word ≡ mid.word → new.has_fault ≡ mid.has_fault → TakesByte s b old mid Sent → TakesByte s b old new Sent
-takes_same s b old mid new Sent word fault t = record {
-  more = t.more;
-  goes = λ bytes made g.
-      let h = t.goes bytes made g in
+-- the word that a machine keeps, after these bytes, is refused where it begins
+module _ (s : WordRule) (bytes made : List ℕ) (old : Words) (h : GoesOn s bytes made old) where
+  abbrev pub begins : Spot
+  begins = spot_after origin (bytes_of h.words)
+
+  line_is : old.line ≡ begins.line
+  line_is = ap (λ (q : Spot). q.line) h.spot ∙ (ap (λ l. (spot_after origin l).line) h.cut
+      ∙ (ap (λ (q : Spot). q.line) (spot_append origin (bytes_of h.words) h.rest) ∙ line_within s.separators.now begins h.rest h.unbroken))
+
+  refusal_is : (first : Option WordRefusal) → IsRefusal old.word (record { line = old.line; byte = old.start }) first → IsRefusal h.rest begins first
+  refusal_is first r =
+      let made : ℕ → List ℕ → ℕ → Option WordRefusal = λ line text byte. Some (record { line = record { number = line; text = text; cause = take kept_bytes r.0 }; byte = byte }) in
+      (r.0, r.1 ∙ (ap (λ n. made n (take kept_bytes old.word) old.start) line_is ∙ (ap (λ t. made begins.line t old.start) h.kept.first ∙ ap (λ n. made begins.line (take kept_bytes h.rest) n) h.start)))
+
+  -- all words and the one that ends are counted
+  pub counts : (new : Words) (e : Ended) → e.word ≡ h.rest → new.refused ≡ refused_after e.reply.fault old.refused → new.refused ≡ refused_in 0 (h.words ++ e ∷ [])
+  counts new e word count = count ∙ (ap (refused_after e.reply.fault) h.count ∙ sym (count_more 0 h.words e))
+
+  pub firsts : (new : Words) (e : Ended) → e.word ≡ h.rest → IsFirstAfter e.reply.fault old new.first → IsFirst (h.words ++ e ∷ []) origin new.first
+  firsts new e word after = first_more h.words e origin old.first new.first h.first
+      (λ fault none. subst (λ w. IsRefusal w begins new.first) (sym word) (refusal_is new.first (after.taken fault (h.count ∙ none))))
+      (λ it. after.kept (⊎_elim (λ clean. inl clean) (λ some. inr (subst (λ n. 0 < n) (sym h.count) some)) it))
+
+-- ---- one more byte
+passed : (s : WordRule) (b : ℕ) (old mid new : Words) → IsAtSamePlace old mid → Passes b mid new → (bytes : List ℕ) → spot_of old ≡ spot_after origin bytes → spot_of new ≡ spot_after origin (bytes ++ b ∷ [])
+passed s b old mid new place p bytes spot =
+    let made : ℕ → ℕ → Spot = λ line byte. record { line = line; byte = byte } in
+    let same : spot_of mid ≡ spot_of old = ap (λ n. made n mid.byte) place.line ∙ ap (λ n. made old.line n) place.byte in
+    p.spot ∙ (ap (λ q. after_byte q b) (same ∙ spot) ∙ sym (spot_more origin bytes b))
+
+not_empty : (word : List ℕ) (b : ℕ) (kept : List ℕ) → IsKept (word ++ b ∷ []) kept → (length kept == 0) ≡ false
+not_empty word b kept k = ⊎_elim
+    (λ (less : longest_line < length (word ++ b ∷ [])). let full : longest_line ≤ length kept = k.full (omega (arith, less)) in grind (arith, nat_tests, full))
+    (λ (most : length (word ++ b ∷ []) ≤ longest_line). let same : length kept ≡ length word + 1 = ap length (k.whole most) ∙ length-append word (b ∷ []) in grind (arith, nat_tests, same))
+    (cases_lt longest_line (length (word ++ b ∷ [])))
+
+-- the byte is part of a word
+pub takes_part : (s : WordRule) (b : ℕ) (old mid new : Words) (Sent : List ℕ → Type 0) → AddsByte s b old mid Sent → Passes b mid new → TakesByte s b old new Sent
+takes_part s b old mid new Sent t p = record {
+  more = [];
+  goes = λ bytes made h.
+      let kept : IsKept (h.rest ++ b ∷ []) mid.word = t.kept h.rest h.kept in
       record {
         words = h.words;
         are = h.are;
-        rest = h.rest;
-        unbroken = h.unbroken;
-        kept = subst (λ w. IsKept h.rest w) (sym word) h.kept;
-        cut = h.cut;
-        text_is = h.text_is;
-        faulty = fault ∙ h.faulty;
+        rest = h.rest ++ b ∷ [];
+        unbroken = unbroken_more s.separators.now h.rest b h.unbroken t.inner;
+        kept = subst (λ w. IsKept (h.rest ++ b ∷ []) w) (sym p.word) kept;
+        cut = ap (λ w. w ++ b ∷ []) h.cut ∙ append_assoc (bytes_of h.words) h.rest (b ∷ []);
+        text_is = append-nil made ∙ h.text_is;
+        faulty = p.fault ∙ (t.fault ∙ h.faulty);
+        count = p.refused ∙ (t.refused ∙ h.count);
+        first = subst (λ f. IsFirst h.words origin f) (sym (p.first ∙ t.first)) h.first;
+        spot = passed s b old mid new t.place p bytes h.spot;
+        start = p.start ∙ (rw (not_empty h.rest b mid.word kept) (t.place.start ∙ h.start));
       };
   sent = t.sent;
+}
+
+-- the byte ends a word
+pub takes_end : (s : WordRule) (b : ℕ) (old mid new : Words) (Sent : List ℕ → Type 0) → EndsBy s b old mid Sent → Passes b mid new → TakesByte s b old new Sent
+takes_end s b old mid new Sent t p = record {
+  more = t.word.reply.text ++ b ∷ [];
+  goes = λ bytes made h.
+      let e = t.word in
+      let ended : Ended = record { word = h.rest; separator = b; reply = e.reply } in
+      let more : List Ended = h.words ++ ended ∷ [] in
+      let cut : bytes ++ b ∷ [] ≡ bytes_of more = ap (λ w. w ++ b ∷ []) h.cut ∙ (append_assoc (bytes_of h.words) h.rest (b ∷ []) ∙ sym (bytes_more h.words ended)) in
+      let none : new.word ≡ [] = p.word ∙ t.none in
+      let spot : spot_of new ≡ spot_after origin (bytes ++ b ∷ []) = passed s b old mid new e.place p bytes h.spot in
+      record {
+        words = more;
+        are = are_more s h.words ended h.are (record { unbroken = h.unbroken; separates = t.ends; replied = reply_kept s h.rest old.word e.reply h.kept e.replied });
+        rest = [];
+        unbroken = tt;
+        kept = record { whole = λ _. none; full = λ many. absurd (omega (arith, many)); first = ap (take kept_bytes) none };
+        cut = cut ∙ sym (append-nil (bytes_of more));
+        text_is = ap (λ l. l ++ (e.reply.text ++ b ∷ [])) h.text_is ∙ sym (written_more h.words ended);
+        faulty = p.fault ∙ (e.fault ∙ (ap (λ f. f || e.reply.fault) h.faulty ∙ sym (refused_more h.words ended)));
+        count = p.refused ∙ counts s bytes made old h mid ended refl e.count;
+        first = subst (λ f. IsFirst more origin f) (sym p.first) (firsts s bytes made old h mid ended refl e.first);
+        spot = spot;
+        start = p.start ∙ (rw (ap length t.none) (ap (λ (q : Spot). q.byte) spot ∙ ap (λ l. (spot_after origin l).byte) cut));
+      };
+  sent = t.word.sent;
 }
 
 -- ---- the pieces of a run
@@ -218,7 +363,7 @@ pub none_left : (part : List ℕ) → HasNone is_piece part → part ≡ []
 none_left [] none = refl
 none_left (b ∷ bytes) none = let no : true ≡ false = none.0 in absurd cc
 
-module _ (first old new : WordBytes) (bytes made : List ℕ) (spent : ℕ) (a b : Moment) (same : new.rule ≡ old.rule) (makes : MakesBy first bytes made spent going old) where
+module _ {J : Type 0} (first old new : WordBytes J) (bytes made : List ℕ) (spent : ℕ) (a b : Moment) (same : new.rule ≡ old.rule) (makes : MakesBy first bytes made spent going old) where
   rule_of : new.rule ≡ first.rule
   rule_of = same ∙ makes.0
 
@@ -246,20 +391,25 @@ module _ (first old new : WordBytes) (bytes made : List ℕ) (spent : ℕ) (a b 
   }
 
   -- the end of the input
-  all_made : (Sent : List ℕ → Type 0) (e : EndsWord old.rule.now old.words.word [] old.words new.words Sent) → IsWorded first.rule.now (bytes ++ []) (record { text = made ++ (e.reply.text ++ []); fault = new.words.has_fault })
+  all_made : (Sent : List ℕ → Type 0) (e : EndsWord old.rule.now old.words.word [] old.words new.words Sent) → Ends first.rule.now (bytes ++ []) (made ++ (e.reply.text ++ [])) new.words.has_fault new.words
   all_made Sent e =
       let h : GoesOn first.rule.now bytes made old.words = makes.1 in
       let replied : IsWordReply first.rule.now old.words.word e.reply = subst (λ r. IsWordReply r.now old.words.word e.reply) makes.0 e.replied in
+      let last : Ended = last_word h.rest e.reply in
       record {
-        words = h.words;
-        are = h.are;
-        rest = h.rest;
-        unbroken = h.unbroken;
-        cut = append-nil bytes ∙ h.cut;
-        last = e.reply;
-        replied = reply_kept first.rule.now h.rest old.words.word e.reply h.kept replied;
-        text_is = ap (λ l. made ++ l) (append-nil e.reply.text) ∙ ap (λ l. l ++ e.reply.text) h.text_is;
-        fault_is = e.fault ∙ ap (λ f. f || e.reply.fault) h.faulty;
+        worded = record {
+          words = h.words;
+          are = h.are;
+          rest = h.rest;
+          unbroken = h.unbroken;
+          cut = append-nil bytes ∙ h.cut;
+          last = e.reply;
+          replied = reply_kept first.rule.now h.rest old.words.word e.reply h.kept replied;
+          text_is = ap (λ l. made ++ l) (append-nil e.reply.text) ∙ ap (λ l. l ++ e.reply.text) h.text_is;
+          fault_is = e.fault ∙ ap (λ f. f || e.reply.fault) h.faulty;
+        };
+        count = counts first.rule.now bytes made old.words h new.words last refl e.count;
+        first = firsts first.rule.now bytes made old.words h new.words last refl e.first;
       }
 
   pub end_goes : EndsWord old.rule.now old.words.word [] old.words new.words (Puts a.seen b.seen a.held b.held) → Goes (MakesBy first) bytes made spent [] (finished new.words.has_fault) new a b

@@ -13,8 +13,10 @@ use fixed_command::{Limit, Tally, bytes_within, error_report, status_of};
 use fixed_report::ErrorReport;
 use fixed_steps::Steps;
 use line_engine::{Sink, Source, Status};
+use line_rejects::Rejects;
 use run_engine::{Cut, Devices, Gathered, run};
 use std::alloc::Global;
+use std::mem;
 use std::sync::ledger::Ledger;
 
 /// How the conversion of the words of an input ended.
@@ -35,7 +37,9 @@ pub struct WordsEnd {
 impl WordsEnd {
     /// Returns the end of a run with this status.
     fn of(words: Words, status: Status) -> WordsEnd
-        ensures { result.status ≡ status }
+        ensures status { result.status ≡ status }
+        ensures refused { result.refused ≡ words.refused }
+        ensures first { result.first ≡ words.first }
     {
         WordsEnd {
             status,
@@ -61,24 +65,26 @@ fn errors_of(alloc: Global, rule: &WordRule<'_>, has_report: bool) -> Option<Err
 /// A word is a stretch of bytes between separators, which are ASCII white space and those of the rule. It is a numeral
 /// or a register word. It is replaced by the answer to a line with only this word; a refused word is replaced by the
 /// token or, if the rule leaves it, stays. Separators are written unchanged. With `has_report` the end has the outcomes
-/// of the words and the greatest error. The answers of a chunk of 4,096 bytes are written before the next is read.
-/// Before the first read it allocates one word of 1,048,576 bytes, and ends with `NoMemory` if that fails. An input is
-/// too long if it has more bytes than the limit or, without one, than 2^62.
-pub fn convert_words<S: Source, K: Sink, L: Ledger>(
+/// of the words and the greatest error. Each refused word has a line of rejects. The answers of a chunk of 4,096 bytes
+/// are written before the next is read. Before the first read it allocates one word of 1,048,576 bytes, and ends with
+/// `NoMemory` if that fails. An input is too long if it has more bytes than the limit or, without one, than 2^62.
+pub fn convert_words<S: Source, K: Sink, J: Sink + Drop, L: Ledger>(
     alloc: Global,
     limit: &Option<Limit>,
     rule: &WordRule<'_>,
     has_report: bool,
+    rejects: &mut Rejects<'_, J>,
     source: &mut S,
     sink: &mut K,
     steps: &mut Steps<L>,
 ) -> WordsEnd
-    // The bytes read, made and written, by status; which count of failures rose; and what reads requested.
+    // The bytes read, made and written, by status; which count of failures rose; what reads requested; how many words
+    // were refused, and the first of them.
     ensures run { ¬ (result.status ≡ Status.NoMemory) → HasWordsRun (limit_of limit.now) rule.now
         (outside (S.left source.old) (S.asked source.old) (S.failures source.old) (K.written sink.old)
         (K.failures sink.old) steps.old)
         (outside (S.left source.new) (S.asked source.new) (S.failures source.new) (K.written sink.new)
-        (K.failures sink.new) steps.new) result.status }
+        (K.failures sink.new) steps.new) result.status result.refused result.first }
 
     // Without memory, nothing was read or written.
     ensures memory { result.status ≡ Status.NoMemory
@@ -94,10 +100,20 @@ pub fn convert_words<S: Source, K: Sink, L: Ledger>(
         },
         Ok(word) => {
             let words = Words::new(word, errors_of(alloc, rule, has_report));
-            let mut machine = Cut(WordBytes { rule, words });
+            let mut machine = Cut(WordBytes {
+                rule,
+                words,
+                rejects: mem::replace(rejects, Rejects::none()),
+            });
             let mut out = Gathered::new(Devices { source, sink });
             let end = run(&mut machine, bytes_within(limit), &mut out, steps);
-            WordsEnd::of(machine.0.words, status_of(end))
+            let WordBytes {
+                words,
+                rejects: told,
+                ..
+            } = machine.0;
+            *rejects = told;
+            WordsEnd::of(words, status_of(end))
         }
     }
 }

@@ -2,11 +2,10 @@
 
 ghost use Rattle.std.specs.Prelude.{◌≡◌, ◌≤◌, ◌<◌, ◌++◌, ◌∷◌, ◌||◌, [], List, MatchOption, ℕ, OnOk, OnErr};
 ghost use Rattle.std.specs.Prelude.{◌==◌, None, get_or, if◌then◌else◌, length, take, true};
-ghost use Rattle.line_engine.specs.Memory.{next_count};
 ghost use Rattle.fixed_words.specs.Noted.{IsAtSamePlace, IsFirstAfter, IsNotedAlike, refused_after};
 ghost use Rattle.fixed_words.specs.Words.{is_refused};
 ghost use Rattle.fixed_words.specs.Run.{GoesOn, IsKept, is_piece};
-ghost use Rattle.fixed_words.specs.Inner.Progress.{EndsWord, TakesByte};
+ghost use Rattle.fixed_words.specs.Inner.Progress.{EndsWord, Passes, Takes, TakesByte};
 ghost use Rattle.fixed_words.specs.declared.rule.WordRule.{WordRule};
 ghost use Rattle.run_engine.specs.Pieces.{HasNone};
 ghost use Rattle.run_engine.specs.Seen.{Breaks, Puts};
@@ -16,7 +15,8 @@ use column_engine::{MAX_RECORD, RecordBuffer};
 use fixed_command::{ConvertRule, Outcome, RefusedLine, Tally, has_error, outcome_of};
 use fixed_report::ErrorReport;
 use fixed_steps::Steps;
-use line_engine::{Failed, MAX_ANSWER};
+use line_engine::{Failed, MAX_ANSWER, Sink};
+use line_rejects::Rejects;
 use run_engine::{Gathered, Halt, Pieces, Streams};
 use std::convert::Infallible;
 use std::sync::ledger::Ledger;
@@ -64,6 +64,11 @@ fn is_refused(ending: Ending) -> bool
     }
 }
 
+/// Returns the cause of a refusal, from its reply.
+fn cause_of(reply: &[u8]) -> &[u8] {
+    reply.strip_prefix(b"error: ").unwrap_or(reply)
+}
+
 impl Words {
     /// The state before the first byte, with room for a word.
     pub fn new(word: RecordBuffer, errors: Option<ErrorReport>) -> Words
@@ -87,8 +92,8 @@ impl Words {
     fn count(&mut self, ending: Ending, reply: &[u8])
         ensures word { self.new.word ≡ self.old.word }
         ensures fault { self.new.has_fault ≡ (self.old.has_fault || is_refused ending) }
-        ensures refused { self.new.refused ≡ refused_after ending self.old.refused }
-        ensures first { IsFirstAfter ending self.old self.new.first }
+        ensures refused { self.new.refused ≡ refused_after (is_refused ending) self.old.refused }
+        ensures first { IsFirstAfter (is_refused ending) self.old self.new.first }
         ensures place { IsAtSamePlace self.old self.new }
         ensures noted { IsNotedAlike self.old self.new }
     {
@@ -96,9 +101,8 @@ impl Words {
             self.has_fault = true;
             self.refused = self.refused.saturating_add(1);
             if self.refused == 1 {
-                let cause = reply.strip_prefix(b"error: ").unwrap_or(reply);
                 self.first = Some(WordRefusal {
-                    line: RefusedLine::new(self.line, self.word.as_slice(), cause),
+                    line: RefusedLine::new(self.line, self.word.as_slice(), cause_of(reply)),
                     byte: self.start,
                 });
             }
@@ -135,10 +139,22 @@ impl Words {
         }
     }
 
+    /// Puts a line of rejects for the word, which has this ending and reply, if it is refused: the number of its line,
+    /// its position there, the word and the cause.
+    fn reject<J: Sink>(&self, ending: Ending, reply: &[u8], rejects: &mut Rejects<'_, J>) {
+        if is_refused(ending) {
+            let word = self.word.as_slice();
+            rejects.put(self.line, Some(self.start), word, cause_of(reply));
+        }
+    }
+
     /// Appends a byte of a word. Bytes past the greatest length of a record are dropped.
     fn keep(&mut self, byte: u8)
         ensures word { (rest : List ℕ) → IsKept rest self.old.word → IsKept (rest ++ byte ∷ []) self.new.word }
         ensures fault { self.new.has_fault ≡ self.old.has_fault }
+        ensures refused { self.new.refused ≡ self.old.refused }
+        ensures first { self.new.first ≡ self.old.first }
+        ensures place { IsAtSamePlace self.old self.new }
     {
         if self.word.len() < MAX_RECORD {
             self.word.push(byte);
@@ -146,10 +162,11 @@ impl Words {
     }
 
     /// Answers the word that ends, which is not empty, and puts the answer and the separator that ends it, if any.
-    fn answer_word<I: Streams, L: Ledger>(
+    fn answer_word<I: Streams, J: Sink, L: Ledger>(
         &mut self,
         rule: &WordRule<'_>,
         end: &[u8],
+        rejects: &mut Rejects<'_, J>,
         out: &mut Gathered<I>,
         steps: &mut Steps<L>,
     ) -> Result<(), Failed>
@@ -167,14 +184,16 @@ impl Words {
         let ending = ending_of(rule, self.word.as_slice(), reply.as_bytes(), is_fault);
         self.count(ending, reply.as_bytes());
         self.note(&rule.rule, ending, reply.as_bytes(), steps);
+        self.reject(ending, reply.as_bytes(), rejects);
         put_shown(rule, ending, &mut self.word, reply.as_bytes(), end, out)
     }
 
     /// Answers the word that ends, unless it is empty, puts the separator that ends it, if any, and begins a new word.
-    fn end_word<I: Streams, L: Ledger>(
+    fn end_word<I: Streams, J: Sink, L: Ledger>(
         &mut self,
         rule: &WordRule<'_>,
         end: &[u8],
+        rejects: &mut Rejects<'_, J>,
         out: &mut Gathered<I>,
         steps: &mut Steps<L>,
     ) -> Result<(), Failed>
@@ -188,26 +207,27 @@ impl Words {
         if self.word.is_empty() {
             return out.put(end);
         }
-        let result = self.answer_word(rule, end, out, steps);
+        let result = self.answer_word(rule, end, rejects, out, steps);
         self.word.clear();
         result
     }
 
-    /// Takes the next byte, and answers the word that ends with it.
-    fn take<I: Streams, L: Ledger>(
+    /// Takes the next byte, and answers the word that ends with it. The position stays.
+    fn take<I: Streams, J: Sink, L: Ledger>(
         &mut self,
         rule: &WordRule<'_>,
         byte: u8,
+        rejects: &mut Rejects<'_, J>,
         out: &mut Gathered<I>,
         steps: &mut Steps<L>,
     ) -> Result<(), Failed>
-        ensures ok { OnOk result (TakesByte rule.now byte self.old self.new
+        ensures ok { OnOk result (Takes rule.now byte self.old self.new
             (Puts (I.seen out.old.io) (I.seen out.new.io) out.old.text out.new.text)) }
-        ensures err { OnErr result (TakesByte rule.now byte self.old self.new
+        ensures err { OnErr result (Takes rule.now byte self.old self.new
             (Breaks (I.seen out.old.io) (I.seen out.new.io) out.old.text)) }
     {
         if is_separator(rule.separators, byte) {
-            return self.end_word(rule, &[byte], out, steps);
+            return self.end_word(rule, &[byte], rejects, out, steps);
         }
         self.keep(byte);
         Ok(())
@@ -215,13 +235,7 @@ impl Words {
 
     /// Moves to the position after a byte.
     fn pass(&mut self, byte: u8)
-        ensures word { self.new.word ≡ self.old.word }
-        ensures fault { self.new.has_fault ≡ self.old.has_fault }
-        ensures line { self.new.line ≡ (if byte == 10 then next_count self.old.line else self.old.line) }
-        ensures byte { self.new.byte ≡ (if byte == 10 then 1 else next_count self.old.byte) }
-        ensures start { self.new.start ≡ (if length self.old.word == 0 then self.new.byte else self.old.start) }
-        ensures refused { self.new.refused ≡ self.old.refused }
-        ensures first { self.new.first ≡ self.old.first }
+        ensures passes { Passes byte self.old self.new }
         ensures noted { IsNotedAlike self.old self.new }
     {
         if byte == b'\n' {
@@ -236,10 +250,11 @@ impl Words {
     }
 
     /// Takes the next byte, answers the word that ends with it, and moves to the next position.
-    fn push<I: Streams, L: Ledger>(
+    fn push<I: Streams, J: Sink, L: Ledger>(
         &mut self,
         rule: &WordRule<'_>,
         byte: u8,
+        rejects: &mut Rejects<'_, J>,
         out: &mut Gathered<I>,
         steps: &mut Steps<L>,
     ) -> Result<(), Failed>
@@ -248,22 +263,24 @@ impl Words {
         ensures err { OnErr result (TakesByte rule.now byte self.old self.new
             (Breaks (I.seen out.old.io) (I.seen out.new.io) out.old.text)) }
     {
-        self.take(rule, byte, out, steps)?;
+        let result = self.take(rule, byte, rejects, out, steps);
         self.pass(byte);
-        Ok(())
+        result
     }
 }
 
 /// The machine that converts the words of an input by a rule. It takes the input byte by byte.
 #[derive(Drop)]
-pub struct WordBytes<'a> {
+pub struct WordBytes<'a, 'n, J> {
     /// The rule.
     pub rule: &'a WordRule<'a>,
     /// The words so far.
     pub words: Words,
+    /// Where the refused words go.
+    pub rejects: Rejects<'n, J>,
 }
 
-impl<'a, L: Ledger> Pieces<L> for WordBytes<'a> {
+impl<'a, 'n, J: Sink + Drop, L: Ledger> Pieces<L> for WordBytes<'a, 'n, J> {
     ghost use Rattle.fixed_words.specs.Run.{MakesBy, is_piece};
     ghost use Rattle.fixed_words.specs.Lemmas.WordLaws.{made_one};
 
@@ -290,7 +307,10 @@ impl<'a, L: Ledger> Pieces<L> for WordBytes<'a> {
         out: &mut Gathered<I>,
         steps: &mut Steps<L>,
     ) -> Result<(), Halt<Infallible>> {
-        match self.words.push(self.rule, byte, out, steps) {
+        match self
+            .words
+            .push(self.rule, byte, &mut self.rejects, out, steps)
+        {
             Err(_) => Err(Halt::WriteFault),
             Ok(()) => Ok(()),
         }
@@ -311,7 +331,10 @@ impl<'a, L: Ledger> Pieces<L> for WordBytes<'a> {
         out: &mut Gathered<I>,
         steps: &mut Steps<L>,
     ) -> Result<bool, Halt<Infallible>> {
-        match self.words.end_word(self.rule, &[], out, steps) {
+        match self
+            .words
+            .end_word(self.rule, &[], &mut self.rejects, out, steps)
+        {
             Err(_) => Err(Halt::WriteFault),
             Ok(()) => Ok(self.words.has_fault),
         }

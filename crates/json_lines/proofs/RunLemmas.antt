@@ -57,11 +57,12 @@ module _ {R : Type 0} (A : List ℕ → AnswerText → Type 0) where
       (λ (short : length line ≤ kept_length). subst (λ l. Answers A task l reply) (take_all kept_length line short) answer)
       (cases_lt kept_length (length line))
 
+module _ {R W : Type 0} (A : List ℕ → AnswerText → Type 0) where
   -- ---- the end of a line
-  module _ (first old new : JsonLines R) (bytes made : List ℕ) (spent : ℕ) (part : List ℕ) (makes : MakesBy A first bytes made spent going old) (Sent : List ℕ → Type 0) (ends : EndsLine (Answers A old.task.now) part old new Sent) where
+  module _ (first old new : JsonLines R W) (bytes made : List ℕ) (spent : ℕ) (part : List ℕ) (makes : MakesBy A first bytes made spent going old) (Sent : List ℕ → Type 0) (ends : EndsLine (Answers A old.task.now) part old new Sent) where
     answered : Answers A first.task.now (unended bytes ++ part) ends.reply
     answered = subst (λ (t : JsonTask R). Answers A t (unended bytes ++ part) ends.reply) (ap (λ t. t.now) makes.0)
-        (answer_kept old.task.now (unended bytes ++ part) ends.reply
+        (answer_kept A old.task.now (unended bytes ++ part) ends.reply
         (subst (λ l. Answers A old.task.now l ends.reply) (ap (λ l. take kept_length (l ++ part)) makes.1.line ∙ take_kept kept_length (unended bytes) part) ends.answer))
 
     one_more : (ls : List (List ℕ)) → AnswersLines (Answers A first.task.now) ls made old.has_fault → AnswersLines (Answers A first.task.now) (ls ++ (unended bytes ++ part) ∷ []) (made ++ reply_line ends.reply) new.has_fault
@@ -122,7 +123,7 @@ module _ {R : Type 0} (A : List ℕ → AnswerText → Type 0) where
     }
 
   -- ---- without memory
-  lacks : (first old new : JsonLines R) (bytes made next : List ℕ) (spent : ℕ) (a b : Moment) → MakesBy A first bytes made spent going old → new.task ≡ old.task → b.seen ≡ a.seen → b.held ≡ a.held → GoesAmong (MakesBy A first) bytes made spent next new a b
+  lacks : (first old new : JsonLines R W) (bytes made next : List ℕ) (spent : ℕ) (a b : Moment) → MakesBy A first bytes made spent going old → new.task ≡ old.task → b.seen ≡ a.seen → b.held ≡ a.held → GoesAmong (MakesBy A first) bytes made spent next new a b
   lacks first old new bytes made next spent a b makes task seen held = record {
     some = [];
     rest = next;
@@ -145,7 +146,7 @@ module _ {R : Type 0} (A : List ℕ → AnswerText → Type 0) where
 
   -- ---- the bytes of a chunk, and the end of the input
   -- a line ends
-  pub feeds_line : (first old new : JsonLines R) (bytes made : List ℕ) (spent : ℕ) (part : List ℕ) (byte : ℕ) (a b : Moment) (result : Result (Unit {0}) (Halt Infallible)) → MakesBy A first bytes made spent going old → ended_lines part ≡ [] → byte ≡ 10
+  pub feeds_line : (first old new : JsonLines R W) (bytes made : List ℕ) (spent : ℕ) (part : List ℕ) (byte : ℕ) (a b : Moment) (result : Result (Unit {0}) (Halt Infallible)) → MakesBy A first bytes made spent going old → ended_lines part ≡ [] → byte ≡ 10
       → LineEnds (Answers A old.task.now) part old new a.seen b.seen a.held b.held result → Feeds (MakesBy A first) bytes made spent (part ++ byte ∷ []) new a b result
   feeds_line first old new bytes made spent part byte a b (Ok u) makes quiet newline ends =
       subst (λ n. Goes (MakesBy A first) bytes made spent (part ++ n ∷ []) going new a b) (sym newline)
@@ -157,7 +158,7 @@ module _ {R : Type 0} (A : List ℕ → AnswerText → Type 0) where
   feeds_line first old new bytes made spent part byte a b (Err (Stopped why)) makes quiet newline ends = absurd ends
 
   -- bytes of a line that has not ended
-  pub part_goes : (first old new : JsonLines R) (bytes made : List ℕ) (spent : ℕ) (part : List ℕ) (a : Moment) → MakesBy A first bytes made spent going old → ended_lines part ≡ []
+  pub part_goes : (first old new : JsonLines R W) (bytes made : List ℕ) (spent : ℕ) (part : List ℕ) (a : Moment) → MakesBy A first bytes made spent going old → ended_lines part ≡ []
       → new.line ≡ take kept_length (old.line ++ part) → new.task ≡ old.task → new.has_fault ≡ old.has_fault → Goes (MakesBy A first) bytes made spent part going new a a
   part_goes first old new bytes made spent part a makes quiet line task fault =
       let answers : AnswersLines (Answers A first.task.now) (ended_lines (bytes ++ part)) (made ++ []) new.has_fault =
@@ -179,7 +180,7 @@ module _ {R : Type 0} (A : List ℕ → AnswerText → Type 0) where
       }
 
   -- no byte is left after the last newline
-  pub last_none : (first s : JsonLines R) (bytes made : List ℕ) (spent : ℕ) (a : Moment) → MakesBy A first bytes made spent going s → unended bytes ≡ [] → Goes (MakesBy A first) bytes made spent [] (finished s.has_fault) s a a
+  pub last_none : (first s : JsonLines R W) (bytes made : List ℕ) (spent : ℕ) (a : Moment) → MakesBy A first bytes made spent going s → unended bytes ≡ [] → Goes (MakesBy A first) bytes made spent [] (finished s.has_fault) s a a
   last_none first s bytes made spent a makes none = record {
     more = [];
     cost = 0;
@@ -194,18 +195,18 @@ module _ {R : Type 0} (A : List ℕ → AnswerText → Type 0) where
   }
 
   -- a last line is left
-  pub last_ends : (first old new : JsonLines R) (bytes made : List ℕ) (spent : ℕ) (a b : Moment) → MakesBy A first bytes made spent going old → (unended bytes ++ []) ∷ [] ≡ last_line (unended bytes)
+  pub last_ends : (first old new : JsonLines R W) (bytes made : List ℕ) (spent : ℕ) (a b : Moment) → MakesBy A first bytes made spent going old → (unended bytes ++ []) ∷ [] ≡ last_line (unended bytes)
       → EndsLine (Answers A old.task.now) [] old new (Puts a.seen b.seen a.held b.held) → Goes (MakesBy A first) bytes made spent [] (finished new.has_fault) new a b
   last_ends first old new bytes made spent a b makes some ends = last_goes first old new bytes made spent [] makes (Puts a.seen b.seen a.held b.held) ends a b refl some ends.sent (λ text sent. sent)
 
-  pub last_halts : (first old new : JsonLines R) (bytes made : List ℕ) (spent : ℕ) (a b : Moment) (halt : Halt Infallible) → MakesBy A first bytes made spent going old → (unended bytes ++ []) ∷ [] ≡ last_line (unended bytes)
+  pub last_halts : (first old new : JsonLines R W) (bytes made : List ℕ) (spent : ℕ) (a b : Moment) (halt : Halt Infallible) → MakesBy A first bytes made spent going old → (unended bytes ++ []) ∷ [] ≡ last_line (unended bytes)
       → LineEnds (Answers A old.task.now) [] old new a.seen b.seen a.held b.held (Err halt) → Halts (MakesBy A first) true bytes made spent [] new a b halt
   last_halts first old new bytes made spent a b WriteFault makes some ends = last_breaks first old new bytes made spent [] makes (Breaks a.seen b.seen a.held) ends a b refl some ends.sent (λ text sent. sent)
   last_halts first old new bytes made spent a b NoMemory makes some ends = lacks first old new bytes made [] spent a b makes ends.0 ends.1 ends.2
   last_halts first old new bytes made spent a b (Stopped why) makes some ends = absurd ends
 
   -- ---- one line
-  pub ends_line : (old new : JsonLines R) (part line : List ℕ) (reply : AnswerText) (refused : Refused) (made kept held put : List ℕ) (Sent : List ℕ → Type 0) → line ≡ take kept_length (old.line ++ part) → Answers A old.task.now line reply → IsMade reply made refused
+  pub ends_line : (old new : JsonLines R W) (part line : List ℕ) (reply : AnswerText) (refused : Refused) (made kept held put : List ℕ) (Sent : List ℕ → Type 0) → line ≡ take kept_length (old.line ++ part) → Answers A old.task.now line reply → IsMade reply made refused
       → length made ≤ longest → kept ≡ made → held ≡ take kept_length (kept ++ 10 ∷ []) → put ≡ held → new.has_fault ≡ (old.has_fault || is_refused refused) → new.line ≡ [] → new.task ≡ old.task → Sent put → EndsLine (Answers A old.task.now) part old new Sent
   ends_line old new part line reply refused made kept held put Sent line_is answer is short kept_is held_is put_is fault none task sent =
       let text : take kept_length (kept ++ 10 ∷ []) ≡ made ++ 10 ∷ [] = ap (λ l. take kept_length (l ++ 10 ∷ [])) kept_is ∙ take_all kept_length (made ++ 10 ∷ []) (omega (arith, length-append made (10 ∷ []), short)) in

@@ -13,7 +13,7 @@ use crate::fault::JsonFault;
 use crate::piece::{content, is_string, piece_end};
 use crate::place::Place;
 use crate::task::JsonTask;
-use column_engine::{FieldRule, RecordBuffer};
+use column_engine::{FieldPlace, FieldRule, FieldWatch, RecordBuffer};
 use fixed_steps::Steps;
 use json::{Scratch, is_valid};
 use line_engine::{LineBuffer, MAX_LINE, Output};
@@ -112,11 +112,23 @@ fn push_exchanged(quotes: bool, piece: &[u8], reply: &[u8], answer: &mut LineBuf
     }
 }
 
-/// Writes the reply to a value. Returns whether it is refused.
-fn reply_to<A: FieldRule<L>, L: Ledger>(
+/// Returns the position of the text of a value: of its line, from 1, and in it, from 0.
+fn place_of(number: u64, at: usize, piece: &[u8]) -> FieldPlace {
+    let before = usize::from(is_string(piece));
+    FieldPlace {
+        record: number,
+        line: number,
+        column: at.saturating_add(before),
+    }
+}
+
+/// Writes the reply to a value, and tells the observer. Returns whether it is refused.
+fn reply_to<A: FieldRule<L>, W: FieldWatch<A, L>, L: Ledger>(
     task: &JsonTask<'_, A>,
+    place: FieldPlace,
     piece: &[u8],
     space: &mut Space,
+    observer: &mut W,
     steps: &mut Steps<L>,
 ) -> bool
     requires { length piece.now ≤ longest }
@@ -127,28 +139,42 @@ fn reply_to<A: FieldRule<L>, L: Ledger>(
     ensures answer { space.new.answer ≡ space.old.answer }
 {
     space.reply.clear();
-    if opens(piece) {
+    let value = content(piece);
+    let is_refused = if opens(piece) {
         space.reply.push_bytes(b"error: ");
         space.reply.push_bytes(JsonFault::Nested.message());
-        return true;
-    }
-    let value = content(piece);
-    task.rule
-        .answer(value, &mut space.scratch, &mut space.reply, steps)
+        true
+    } else {
+        task.rule
+            .answer(value, &mut space.scratch, &mut space.reply, steps)
+    };
+    let reply = space.reply.as_bytes();
+    observer.see(
+        task.rule,
+        place,
+        value,
+        reply,
+        is_refused,
+        &mut space.scratch,
+        steps,
+    );
+    is_refused
 }
 
 /// Exchanges a value, or writes its refusal as the answer. Returns whether it is refused.
-fn answer_value<A: FieldRule<L>, L: Ledger>(
+fn answer_value<A: FieldRule<L>, W: FieldWatch<A, L>, L: Ledger>(
     task: &JsonTask<'_, A>,
+    place: FieldPlace,
     piece: &[u8],
     space: &mut Space,
+    observer: &mut W,
     steps: &mut Steps<L>,
 ) -> bool
     requires { length piece.now ≤ longest }
     ensures { IsReplied (A.Answers task.now.rule.now) task.now.form.quotes piece.now result space.old.answer
         space.new.answer }
 {
-    let is_refused = reply_to(task, piece, space, steps);
+    let is_refused = reply_to(task, place, piece, space, observer, steps);
     if is_refused {
         space.answer.clear();
         space.answer.append(space.reply.as_bytes());
@@ -164,10 +190,12 @@ fn answer_value<A: FieldRule<L>, L: Ledger>(
 }
 
 /// Writes the answer to a line that is JSON.
-fn answer_values<A: FieldRule<L>, L: Ledger>(
+fn answer_values<A: FieldRule<L>, W: FieldWatch<A, L>, L: Ledger>(
     task: &JsonTask<'_, A>,
+    number: u64,
     line: &[u8],
     space: &mut Space,
+    observer: &mut W,
     steps: &mut Steps<L>,
 ) -> Refused
     requires { length line.now ≤ longest }
@@ -183,7 +211,8 @@ fn answer_values<A: FieldRule<L>, L: Ledger>(
         let piece = &line[at..end];
         let rest = &line[end..];
         if place.is_at(task.steps, piece, rest) {
-            if answer_value(task, piece, space, steps) {
+            let at_value = place_of(number, at, piece);
+            if answer_value(task, at_value, piece, space, observer, steps) {
                 return Refused::Value(at, end);
             }
             is_found = true;
@@ -213,10 +242,12 @@ fn fit(refused: Refused, answer: &mut LineBuffer) -> Refused
 }
 
 /// Writes the answer to a line that is not too long and not skipped.
-fn answer_read<A: FieldRule<L>, L: Ledger>(
+fn answer_read<A: FieldRule<L>, W: FieldWatch<A, L>, L: Ledger>(
     task: &JsonTask<'_, A>,
+    number: u64,
     line: &[u8],
     space: &mut Space,
+    observer: &mut W,
     steps: &mut Steps<L>,
 ) -> Result<Refused, AllocError>
     requires { length line.now ≤ longest }
@@ -229,15 +260,18 @@ fn answer_read<A: FieldRule<L>, L: Ledger>(
         refuse(JsonFault::NotJson, &mut space.answer);
         return Ok(Refused::Line(JsonFault::NotJson));
     }
-    let refused = answer_values(task, line, space, steps);
+    let refused = answer_values(task, number, line, space, observer, steps);
     Ok(fit(refused, &mut space.answer))
 }
 
-/// Writes the answer to a line. Returns whether and why it is refused.
-pub fn answer_line<A: FieldRule<L>, L: Ledger>(
+/// Writes the answer to the line with this number, and tells the observer of each value up to the first refused one.
+/// Returns whether and why the line is refused.
+pub fn answer_line<A: FieldRule<L>, W: FieldWatch<A, L>, L: Ledger>(
     task: &JsonTask<'_, A>,
+    number: u64,
     line: &[u8],
     space: &mut Space,
+    observer: &mut W,
     steps: &mut Steps<L>,
 ) -> Result<Refused, AllocError>
     ensures made { IfOk result (λ refused. (answer : AnswerText)
@@ -254,7 +288,7 @@ pub fn answer_line<A: FieldRule<L>, L: Ledger>(
         space.answer.append(line);
         return Ok(Refused::No);
     }
-    let refused = answer_read(task, line, space, steps)?;
+    let refused = answer_read(task, number, line, space, observer, steps)?;
     if task.form.keeps && refused.is_refused() {
         space.answer.clear();
         space.answer.append(line);

@@ -85,6 +85,11 @@ impl JsonRefusals {
         }
     }
 
+    /// Returns how many lines ended.
+    pub fn lines(&self) -> u64 {
+        self.lines
+    }
+
     /// Counts a line, and keeps the report of the first refused one, for which the rule wrote a reply. `stop` is where
     /// it stops being JSON, from 1, or 0.
     pub fn note(&mut self, refused: Refused, stop: u64, line: &[u8], reply: &[u8]) {

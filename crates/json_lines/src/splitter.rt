@@ -10,9 +10,9 @@ use crate::fault::JsonFault;
 use crate::refusals::JsonRefusals;
 use crate::stop::stop_in;
 use crate::task::JsonTask;
-use column_engine::FieldRule;
+use column_engine::{FieldPlace, FieldRule, FieldWatch};
 use fixed_steps::Steps;
-use line_engine::LineBuffer;
+use line_engine::{LineBuffer, MAX_LINE};
 use run_engine::{Gathered, Halt, Pieces, Streams, find_newline};
 use std::alloc::{AllocError, Global};
 use std::convert::Infallible;
@@ -20,7 +20,7 @@ use std::sync::ledger::Ledger;
 
 /// Lines of JSON.
 #[derive(Drop)]
-pub struct JsonLines<'a, A> {
+pub struct JsonLines<'a, A, W> {
     /// How they are answered.
     pub task: &'a JsonTask<'a, A>,
     /// The first bytes of the line that has not ended.
@@ -31,28 +31,82 @@ pub struct JsonLines<'a, A> {
     pub has_fault: bool,
     /// The refused lines.
     pub refusals: JsonRefusals,
+    /// The observer of the values, and of the lines that are refused as a whole.
+    pub observer: W,
 }
 
-impl<'a, A> JsonLines<'a, A> {
-    /// The state before the first line.
-    pub fn new(alloc: Global, task: &'a JsonTask<'a, A>) -> Result<JsonLines<'a, A>, AllocError>
-        ensures task { IfOk result (λ it. it.task.now ≡ task.now) }
-        ensures line { IfOk result (λ it. it.line ≡ []) }
-        ensures fault { IfOk result (λ it. it.has_fault ≡ false) }
+/// The memory of a run: a line, and what answers need.
+#[derive(Drop)]
+pub struct Room {
+    pub line: LineBuffer,
+    pub space: Space,
+}
+
+impl Room {
+    /// Allocates it.
+    pub fn new(alloc: Global) -> Result<Room, AllocError>
+        ensures { IfOk result (λ room. room.line ≡ []) }
     {
         let line = LineBuffer::new(alloc)?;
         let space = Space::new(alloc)?;
-        Ok(JsonLines {
+        Ok(Room { line, space })
+    }
+}
+
+impl<'a, A, W> JsonLines<'a, A, W> {
+    /// The state before the first line.
+    pub fn new(task: &'a JsonTask<'a, A>, room: Room, observer: W) -> JsonLines<'a, A, W>
+        ensures task { result.task.now ≡ task.now }
+        ensures line { result.line ≡ room.line }
+        ensures fault { result.has_fault ≡ false }
+    {
+        JsonLines {
             task,
-            line,
-            space,
+            line: room.line,
+            space: room.space,
             has_fault: false,
             refusals: JsonRefusals::new(),
-        })
+            observer,
+        }
     }
 
-    /// Counts a line, and keeps the report of the first refused one.
-    fn note(&mut self, refused: Refused)
+    /// Tells the observer of the line with this number, which is refused as a whole: where it stops being JSON, from 1,
+    /// or 0.
+    #[cold]
+    fn tell<L: Ledger>(&mut self, number: u64, fault: JsonFault, stop: u64, steps: &mut Steps<L>)
+    where
+        A: FieldRule<L>,
+        W: FieldWatch<A, L>,
+        ensures fault { self.new.has_fault ≡ self.old.has_fault }
+        ensures line { self.new.line ≡ self.old.line }
+        ensures task { self.new.task ≡ self.old.task }
+        ensures answer { self.new.space.answer ≡ self.old.space.answer }
+    {
+        let place = FieldPlace {
+            record: number,
+            line: number,
+            column: stop.saturating_sub(1) as usize,
+        };
+        let line = self.line.as_slice();
+        let shown = &line[..MAX_LINE.min(line.len())];
+        let scratch = &mut self.space.scratch;
+        self.observer.see(
+            self.task.rule,
+            place,
+            shown,
+            fault.message(),
+            true,
+            scratch,
+            steps,
+        );
+    }
+
+    /// Counts a line, keeps the report of the first refused one, and tells the observer of one that is refused as a
+    /// whole.
+    fn note<L: Ledger>(&mut self, refused: Refused, steps: &mut Steps<L>)
+    where
+        A: FieldRule<L>,
+        W: FieldWatch<A, L>,
         ensures fault { self.new.has_fault ≡ (self.old.has_fault || is_refused refused) }
         ensures line { self.new.line ≡ self.old.line }
         ensures task { self.new.task ≡ self.old.task }
@@ -60,14 +114,16 @@ impl<'a, A> JsonLines<'a, A> {
     {
         let line = self.line.as_slice();
         let stop = match refused {
-            Refused::Line(JsonFault::NotJson) if self.refusals.first.is_none() => {
-                stop_in(line, &mut self.space.json)
-            }
+            Refused::Line(JsonFault::NotJson) => stop_in(line, &mut self.space.json),
             _ => 0,
         };
         self.refusals
             .note(refused, stop, line, self.space.reply.as_bytes());
         self.has_fault |= refused.is_refused();
+        if let Refused::Line(fault) = refused {
+            let number = self.refusals.lines();
+            self.tell(number, fault, stop, steps);
+        }
     }
 
     /// Answers the line whose last bytes are `part`, and begins a new one.
@@ -79,14 +135,23 @@ impl<'a, A> JsonLines<'a, A> {
     ) -> Result<(), Halt<Infallible>>
     where
         A: FieldRule<L>,
+        W: FieldWatch<A, L>,
         ensures { LineEnds (Answers (A.Answers self.old.task.now.rule.now) self.old.task.now) part.now self.old self.new
             (I.seen out.old.io) (I.seen out.new.io) out.old.text out.new.text result }
     {
         self.line.append(part);
-        match answer_line(self.task, self.line.as_slice(), &mut self.space, steps) {
+        let number = self.refusals.lines().saturating_add(1);
+        match answer_line(
+            self.task,
+            number,
+            self.line.as_slice(),
+            &mut self.space,
+            &mut self.observer,
+            steps,
+        ) {
             Err(_) => Err(Halt::NoMemory),
             Ok(refused) => {
-                self.note(refused);
+                self.note(refused, steps);
                 self.space.answer.append(b"\n");
                 self.line.clear();
                 match out.put(self.space.answer.as_slice()) {
@@ -98,7 +163,7 @@ impl<'a, A> JsonLines<'a, A> {
     }
 }
 
-impl<'a, A: FieldRule<L>, L: Ledger> Pieces<L> for JsonLines<'a, A> {
+impl<'a, A: FieldRule<L>, W: FieldWatch<A, L> + Drop, L: Ledger> Pieces<L> for JsonLines<'a, A, W> {
     ghost use Rattle.run_engine.specs.Pieces.{is_newline};
     ghost use Rattle.json_lines.specs.Run.{MakesBy};
     ghost use Rattle.json_lines.specs.Lemmas.RunLaws.{made_one};

@@ -93,8 +93,9 @@ worded_one s bytes a b x y =
     ap (λ t. made t a.fault) text ∙ ap (λ f. made b.text f) fault
 
 -- a machine makes one text of some bytes
-pub made_one : (first a b : WordBytes) (bytes made other : List ℕ) (spent cost : ℕ) (how then : How Infallible)
-    → MakesBy first bytes made spent how a → MakesBy first bytes other cost then b → Agree how made then other
+pub made_one : {J : Type 0} (first a b : WordBytes J) (bytes made other : List ℕ) (spent cost : ℕ) (how
+    then : How Infallible) → MakesBy first bytes made spent how a → MakesBy first bytes other cost then b
+    → Agree how made then other
 made_one first a b bytes made other spent cost going going p q =
     let x = p.1 in
     let y = q.1 in
@@ -108,7 +109,7 @@ made_one first a b bytes made other spent cost (finished f) going p q = tt
 made_one first a b bytes made other spent cost (finished f) (finished g) p q =
     let x : AnswerText = record { text = made; fault = f } in
     let y : AnswerText = record { text = other; fault = g } in
-    let same : x ≡ y = worded_one first.rule.now bytes x y p.1 q.1 in
+    let same : x ≡ y = worded_one first.rule.now bytes x y p.1.worded q.1.worded in
     (ap (λ (r : AnswerText). r.text) same, ap (λ (r : AnswerText). r.fault) same)
 made_one first a b bytes made other spent cost (finished f) lacking p q = tt
 made_one first a b bytes made other spent cost (finished f) (stopped late t) p q = absurd q.1

@@ -10,7 +10,7 @@ use Rattle.run_engine.specs.declared.machine.Halt.TheVariants.{NoMemory, Stopped
 use Rattle.json_lines.specs.declared.splitter.JsonLines.{JsonLines}
 
 -- the line was answered, and `Sent` holds of its answer and a newline
-pub record EndsLine {R : Type 0} (B : List ℕ → AnswerText → Type 0) (part : List ℕ) (old new : JsonLines R)
+pub record EndsLine {R W : Type 0} (B : List ℕ → AnswerText → Type 0) (part : List ℕ) (old new : JsonLines R W)
     (Sent : List ℕ → Type 0) : Type 0 where
   pub reply : AnswerText
   pub answer : B (take kept_length (old.line ++ part)) reply
@@ -20,8 +20,8 @@ pub record EndsLine {R : Type 0} (B : List ℕ → AnswerText → Type 0) (part 
   pub sent : Sent (reply_line reply)
 
 -- a line ended, and its answer was put; or a write failed with it; or there was no memory
-abbrev pub LineEnds : {R : Type 0} → (List ℕ → AnswerText → Type 0) → List ℕ → JsonLines R → JsonLines R → Seen → Seen
-    → List ℕ → List ℕ → Result (Unit {0}) (Halt Infallible) → Type 0
+abbrev pub LineEnds : {R W : Type 0} → (List ℕ → AnswerText → Type 0) → List ℕ → JsonLines R W → JsonLines R W
+    → Seen → Seen → List ℕ → List ℕ → Result (Unit {0}) (Halt Infallible) → Type 0
 LineEnds B part old new a b held held' (Ok _) = EndsLine B part old new (Puts a b held held')
 LineEnds B part old new a b held held' (Err WriteFault) = EndsLine B part old new (Breaks a b held)
 LineEnds B part old new a b held held' (Err NoMemory) = (new.task ≡ old.task) × (b ≡ a) × (held' ≡ held)

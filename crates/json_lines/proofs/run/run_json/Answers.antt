@@ -4,7 +4,8 @@ use Rattle.line_engine.specs.Program.{Outside, outside}
 use Rattle.run_engine.specs.LineStatus.{IsStatus}
 use Rattle.run_engine.specs.Run.{HasRun}
 use Rattle.run_engine.specs.Seen.{Moment, Seen, moment, seen_of}
-use Rattle.json_lines.specs.Run.{MakesBy}
+use Rattle.run_engine.proofs.Public.{run_of}
+use Rattle.json_lines.specs.Run.{Answers, MakesBy, MakesLines, standing_of}
 use Rattle.json_lines.proofs.run.run_json.Goals as goal
 
 pub returns-in-Ok : goal.returns-in-Ok
@@ -20,16 +21,18 @@ returns-in-Ok g c =
     let io' = c.run-end.new.out.io in
     let a : Moment = moment (seen io.source.now io.sink.now io.source.ghost_name io.sink.ghost_name) c.new-out.result.text c.args.steps.now in
     let b : Moment = moment (seen io'.source.now io'.sink.now io'.source.ghost_name io'.sink.ghost_name) c.run-end.new.out.text c.run-end.new.steps in
-    let first = c.in-Ok.lines in
+    let first = c.new-in-Ok.result in
+    let task = c.args.task.now in
+    let machine = c.run-end.new.machine in
     inr (record {
-      first = first;
-      last = c.run-end.new.machine;
+      last = standing_of machine.0;
       a = a;
       b = b;
       end = c.run-end.result;
-      is_first = c.in-Ok.ensures.task;
       is_before = ap (λ s. at s c.new-out.result.io.sink.now) source_first ∙ ap (λ k. at c.args.source.now k) sink_first;
       is_after = ap (λ s. then s c.run-end.new.out.io.sink.now) (sym source) ∙ ap (λ k. then c.source-1.given.0 k) (sym sink);
-      ends = subst (IsStatus c.run-end.result) (sym c.of.ensures) c.status_of.ensures;
-      run = subst (λ limit. HasRun (λ bytes text spent how it. MakesBy (g.A.FieldRule.Answers first.task.now.rule.now) first bytes text spent how it.0) c.run-end.new.machine limit a b c.run-end.result) c.bytes_within.ensures.value c.run-end.ensures;
+      ends = c.status_of.ensures;
+      run = subst (λ limit. HasRun (λ bytes text spent how it. MakesLines (Answers (g.A.FieldRule.Answers task.rule.now) task) bytes text how it) (standing_of machine.0) limit a b c.run-end.result) c.bytes_within.ensures.value
+          (run_of (λ bytes text spent how it. MakesBy (g.A.FieldRule.Answers first.task.now.rule.now) first bytes text spent how it.0) (λ bytes text spent how it. MakesLines (Answers (g.A.FieldRule.Answers task.rule.now) task) bytes text how it) machine (standing_of machine.0)
+          (λ used text spent how makes. subst (λ t. MakesLines (Answers (g.A.FieldRule.Answers t.rule.now) t) used text how (standing_of machine.0)) c.new-in-Ok.ensures.task makes.1) c.bytes_within.result a b c.run-end.result c.run-end.ensures);
     })

@@ -1,4 +1,4 @@
-use Rattle.std.proofs.Common.{◌≡◌, ◌∙◌, length, inl}
+use Rattle.std.proofs.Common.{◌≡◌, length, inl, refl}
 use Rattle.line_engine.specs.Lines.{lines}
 use Rattle.fixed_arrays.specs.Answer.{frame_of, numerals_in}
 use Rattle.fixed_arrays.proofs.ElementLemmas.{some_numbers, whole_text}
@@ -14,6 +14,6 @@ returns-in-Ok-array_text g c =
       format = c.in-Ok.ensures.format;
       numbers = h.numbers;
       elements = h.elements;
-      text = c.new.ensures.text ∙ whole_text (frame_of r) h.numbers c.in-Ok.elements.count c.in-Ok.elements.text.items c.in-Ok-array_text.text.items same h.text (rw c.frame_of.ensures at c.in-Ok-array_text.ensures);
-      fault = c.new.ensures.fault;
+      text = whole_text (frame_of r) h.numbers c.in-Ok.elements.count c.in-Ok.elements.text.items c.in-Ok-array_text.text.items same h.text (rw c.frame_of.ensures at c.in-Ok-array_text.ensures);
+      fault = refl;
     })

@@ -5,9 +5,9 @@ use Rattle.fixed_words.proofs.splitter.Words.count.Goals as goal
 pub returns-then-self-eq1-clause-first : goal.returns-then-self-eq1-clause-first
 returns-then-self-eq1-clause-first c = record {
   taken = λ is none. (
-    c.unwrap_or-cause.result.now,
+    c.cause_of.result.now,
     ap (λ l. Some (record { line = l; byte = c.args.self.now.start }))
-        (c.new.ensures ∙ ap (λ (w : List ℕ). record { number = c.args.self.now.line; text = take kept_bytes w; cause = take kept_bytes c.unwrap_or-cause.result.now }) c.as_slice.ensures.bytes),
+        (c.new.ensures ∙ ap (λ (w : List ℕ). record { number = c.args.self.now.line; text = take kept_bytes w; cause = take kept_bytes c.cause_of.result.now }) c.as_slice.ensures.bytes),
   );
   kept = λ e. elim e [
     | inl is ↦ absurd (true≢false (sym c.if-is_refused.true ∙ (c.is_refused.ensures ∙ is)))

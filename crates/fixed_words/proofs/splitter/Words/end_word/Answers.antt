@@ -20,7 +20,7 @@ returns-clause-ok g c =
     let mid = it.new.self in
     on_ok_weaker it.result (ends_same c.args.rule.now c.args.self.now.word c.args.end.now c.args.self.now mid
     (record { word = c.clear.new.self; has_fault = mid.has_fault; line = mid.line; byte = mid.byte; start = mid.start; refused = mid.refused; first = mid.first; errors = mid.errors; tally = mid.tally })
-    (Puts (g.I.Streams.seen c.args.out.now.io) (g.I.Streams.seen it.new.out.io) c.args.out.now.text it.new.out.text) refl) it.ensures.ok
+    (Puts (g.I.Streams.seen c.args.out.now.io) (g.I.Streams.seen it.new.out.io) c.args.out.now.text it.new.out.text) refl refl refl (record { line = refl; byte = refl; start = refl })) it.ensures.ok
 
 pub returns-clause-err : goal.returns-clause-err
 returns-clause-err g c =
@@ -28,4 +28,4 @@ returns-clause-err g c =
     let mid = it.new.self in
     on_err_weaker it.result (ends_same c.args.rule.now c.args.self.now.word c.args.end.now c.args.self.now mid
     (record { word = c.clear.new.self; has_fault = mid.has_fault; line = mid.line; byte = mid.byte; start = mid.start; refused = mid.refused; first = mid.first; errors = mid.errors; tally = mid.tally })
-    (Breaks (g.I.Streams.seen c.args.out.now.io) (g.I.Streams.seen it.new.out.io) c.args.out.now.text) refl) it.ensures.err
+    (Breaks (g.I.Streams.seen c.args.out.now.io) (g.I.Streams.seen it.new.out.io) c.args.out.now.text) refl refl refl (record { line = refl; byte = refl; start = refl })) it.ensures.err

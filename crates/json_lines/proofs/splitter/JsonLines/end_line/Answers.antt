@@ -8,7 +8,7 @@ pub returns-in-Err-put : goal.returns-in-Err-put
 returns-in-Err-put g c =
     let old = c.args.self.now in
     let mid = c.note.new.self in
-    let new : JsonLines g.row.A.Denot = record { task = mid.task; line = c.clear.new.self; space = record { answer = c.append-in-Ok.new.self; reply = mid.space.reply; scratch = mid.space.scratch; json = mid.space.json }; has_fault = mid.has_fault; refusals = mid.refusals } in
+    let new : JsonLines g.row.A.Denot g.row.W.Denot = record { task = mid.task; line = c.clear.new.self; space = record { answer = c.append-in-Ok.new.self; reply = mid.space.reply; scratch = mid.space.scratch; json = mid.space.json }; has_fault = mid.has_fault; refusals = mid.refusals; observer = mid.observer } in
     let a = g.I.Streams.seen c.args.out.now.io in
     let b = g.I.Streams.seen c.put.new.self.io in
     ends_line (g.A.FieldRule.Answers old.task.now.rule.now) old new c.args.part.now c.as_slice.result.now c.in-Ok.ensures.made.0 c.in-Ok.refused c.answer_line.new.space.answer mid.space.answer c.append-in-Ok.new.self c.as_slice-in-Ok.result.now
@@ -19,7 +19,7 @@ pub returns-in-Ok-put : goal.returns-in-Ok-put
 returns-in-Ok-put g c =
     let old = c.args.self.now in
     let mid = c.note.new.self in
-    let new : JsonLines g.row.A.Denot = record { task = mid.task; line = c.clear.new.self; space = record { answer = c.append-in-Ok.new.self; reply = mid.space.reply; scratch = mid.space.scratch; json = mid.space.json }; has_fault = mid.has_fault; refusals = mid.refusals } in
+    let new : JsonLines g.row.A.Denot g.row.W.Denot = record { task = mid.task; line = c.clear.new.self; space = record { answer = c.append-in-Ok.new.self; reply = mid.space.reply; scratch = mid.space.scratch; json = mid.space.json }; has_fault = mid.has_fault; refusals = mid.refusals; observer = mid.observer } in
     let a = g.I.Streams.seen c.args.out.now.io in
     let b = g.I.Streams.seen c.put.new.self.io in
     ends_line (g.A.FieldRule.Answers old.task.now.rule.now) old new c.args.part.now c.as_slice.result.now c.in-Ok.ensures.made.0 c.in-Ok.refused c.answer_line.new.space.answer mid.space.answer c.append-in-Ok.new.self c.as_slice-in-Ok.result.now
