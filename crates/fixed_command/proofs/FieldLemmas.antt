@@ -1,6 +1,7 @@
 -- The numeral that the bytes of a field are read as, and the reply to it.
 use Rattle.std.proofs.Common.{◌≡◌, ◌∙◌, ◌==◌, ◌&&◌, ◌+◌, ◌-◌, ◌<◌, ◌≤◌, ℕ, zero, suc, Option, List, [], ◌∷◌, ◌++◌, Bool, true, false, not, subst, length, map, take, take-suc, get_or, add-one, append-nil, drop, drop-cons, refl, sym, ap, arith}
 use Rattle.std.specs.List.{flat_map, starts_with}
+use Rattle.std.specs.Prelude.{IfSome, None, Some}
 use Rattle.std.proofs.lemmas.List.{drop_all}
 use Rattle.std.proofs.lemmas.Grind.{flat_map-append}
 use Rattle.line_engine.specs.AnswerText.{AnswerText}
@@ -131,3 +132,6 @@ read_outcome form s field bytes text found same some placed is outcome =
     let place : is_misplaced form s.radix (bare form field) ≡ false = ap (λ l. is_misplaced form s.radix l) (sym same) ∙ placed in
     subst (λ b. IsFieldOutcomeBy b form s field found) (sym empty) (subst (λ b. IsNumeralOutcome b form s field found) (sym place)
     (subst (λ l. IsReadOutcome s l found) numeral outcome))
+
+pub some_so : {T : Type 0} (o : Option T) (P : T → Type 0) → ((x : T) → P x) → IfSome o P
+some_so o P so = elim o as (λ o. IfSome o P) [ None ↦ tt | Some x ↦ so x ]

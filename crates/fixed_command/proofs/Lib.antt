@@ -3,7 +3,6 @@ pub mod Public
 -- Private to this crate:
 mod AskingLemmas
 mod BlockLemmas
-mod ColonLemmas
 mod ErrorLineLemmas
 mod ExplainFieldLemmas
 mod ExplainLawLemmas
@@ -13,6 +12,7 @@ mod OutcomeLemmas
 mod OutcomeNumbers
 mod OverflowLemmas
 mod RefusedLemmas
+mod RejectLemmas
 mod RunLawLemmas
 mod ShownNameLemmas
 mod NameLawLemmas

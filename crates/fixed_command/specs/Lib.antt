@@ -4,6 +4,8 @@ pub mod Blocks
 pub mod Convert
 pub mod Errors
 pub mod Explained
+pub mod FieldRejects
+pub mod FieldReports
 pub mod Fields
 pub mod Hex
 pub mod Hints
@@ -22,6 +24,7 @@ pub mod Outcome
 pub mod Printed
 pub mod Products
 pub mod Refused
+pub mod Rejects
 pub mod Reports
 pub mod RunLaws
 pub mod Renamed

@@ -1,7 +1,7 @@
 -- What observers record of the lines of a task.
 use Rattle.std.specs.Prelude.{◌≡◌, ◌++◌, ◌∷◌, ℕ, List, [], Bool, true, false, Option, None, Some, MatchOption}
 use Rattle.std.specs.Prelude.{Result, Ok, Err, take}
-use Rattle.fixed_report.specs.Report.{HasReport, IsLostBy, Kept}
+use Rattle.fixed_report.specs.Report.{HasReport, HasSums, IsLostBy, Kept}
 use Rattle.run_engine.specs.Refused.{SawRefused}
 use Rattle.run_engine.specs.declared.refusals.RefusedLine as engine
 use Rattle.run_engine.specs.declared.refusals.Refusals.{Refusals}
@@ -46,7 +46,7 @@ tally_after tally number (Ok None) = tally
 tally_after tally number (Ok (Some outcome)) = noted tally number outcome
 tally_after tally number (Err message) = noted tally number Refused
 
--- the report of the greatest error after one more numeral, in the line of this number
+-- the report of errors after one more numeral, in the line of this number
 pub record IsErrorAdded (k : Kept) (number : ℕ) (numeral : List ℕ) (then : Kept) : Type 0 where
   pub radix : then.radix ≡ k.radix
   pub format : then.format ≡ k.format
@@ -54,6 +54,9 @@ pub record IsErrorAdded (k : Kept) (number : ℕ) (numeral : List ℕ) (then : K
   pub one_more : (entries : List _) → HasReport k.mode k.radix k.format entries k.lost k.greatest
       → HasReport k.mode k.radix k.format (entries ++ record { place = number; numeral = numeral } ∷ []) then.lost
       then.greatest
+  pub sums : (entries : List _) → HasSums k.mode k.radix k.format entries k.lost k.sums
+      → HasSums k.mode k.radix k.format (entries ++ record { place = number; numeral = numeral } ∷ []) then.lost
+      then.sums
   pub lost : IsLostBy k numeral then.lost
 
 -- that, if the numeral has an error; else the report stays

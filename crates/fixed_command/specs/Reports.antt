@@ -1,13 +1,18 @@
 -- What the end of a task reports: the refused lines, the outcomes of the numerals, and the greatest error.
 use Rattle.std.specs.Prelude.{◌≡◌, ℕ, List, [], None, Option, Result, Some}
+use Rattle.fixed_columns.specs.Answer as columns
+use Rattle.fixed_constants.specs.Forms as constants
+use Rattle.fixed_constants.specs.Plain.{IsPlainAnswer}
 use Rattle.fixed_enclose.specs.Answer as enclose
 use Rattle.fixed_enclose.specs.declared.rule.EncloseRule.{EncloseRule}
-use Rattle.fixed_report.specs.Report.{HasReport}
+use Rattle.fixed_report.specs.Report.{HasReport, HasSums}
 use Rattle.fixed_respell.specs.Answer as respell
 use Rattle.fixed_respell.specs.Refusal.{refusal_message, refusal_text}
 use Rattle.fixed_respell.specs.declared.respell_rule.RespellRule.{RespellRule}
 use Rattle.line_engine.specs.AnswerText.{AnswerText}
 use Rattle.line_engine.specs.Program.{Outside}
+use Rattle.line_engine.specs.Refusals.{TellsRefusal}
+use Rattle.line_engine.specs.declared.refusal.WholeRefusal.{WholeRefusal}
 use Rattle.run_engine.specs.LineRun.{HasLinesRun}
 use Rattle.run_engine.specs.Refused.{SawRefused}
 use Rattle.run_engine.specs.Reply.{Returns}
@@ -15,12 +20,16 @@ use Rattle.run_engine.specs.declared.refusals.Refusals.{Refusals}
 use Rattle.fixed_show.specs.declared.form.Form.{Form}
 use Rattle.fixed_command.specs.Convert.{IsLineReply, IsReply, without_return}
 use Rattle.fixed_command.specs.Errors.{IsErrorLine}
+use Rattle.fixed_command.specs.LaidList.{laid_out}
 use Rattle.fixed_command.specs.Layout.{AnswersLaidOut, IsLaidOut, LineLayout, NotesLaidOut, answered_line}
+use Rattle.fixed_command.specs.LeastLines.{IsLeastWritten}
 use Rattle.fixed_command.specs.Limits.{limit_of}
 use Rattle.fixed_command.specs.LineBlocks.{IsLineBlock, line_refusal}
 use Rattle.fixed_command.specs.Message.{message_text}
 use Rattle.fixed_command.specs.Observed.{IsLineOutcome, SawCounted, SawLaid, SawReturned, reported_of}
+use Rattle.fixed_command.specs.Renamed.{IsRenamedAnswer}
 use Rattle.fixed_command.specs.Runs.{reported_extra, reported_per_byte}
+use Rattle.fixed_command.specs.Watched.{count_told, first_told}
 use Rattle.fixed_command.specs.declared.blocks.Question.{Question}
 use Rattle.fixed_command.specs.declared.laid_lines.LaidOutLines as laid
 use Rattle.fixed_command.specs.declared.laid_lines.LaidRefusals.{LaidRefusals}
@@ -121,6 +130,8 @@ pub record ReportsCounted (counted : CountedRule) (limit : ℕ) (before after : 
   pub no_numeral : first.tally ≡ no_tally
   pub no_error : HasReport counted.laid.rule.mode counted.laid.rule.radix counted.laid.rule.source [] first.errors.lost
       first.errors.greatest
+  pub no_sums : HasSums counted.laid.rule.mode counted.laid.rule.radix counted.laid.rule.source [] first.errors.lost
+      first.errors.sums
   pub run : HasLinesRun counted (IsLaidOut counted.laid.layout (IsReply counted.laid.rule))
       (Returns (IsLineOutcome counted.laid) message_text) (SawCounted counted.laid) reported_per_byte reported_extra
       limit before after end.status first last
@@ -128,7 +139,14 @@ pub record ReportsCounted (counted : CountedRule) (limit : ℕ) (before after : 
   pub tally : end.tally ≡ last.tally
   pub errors : end.errors ≡ Some last.errors
 
--- what the end of a task reports; it is not stated for whole inputs
+-- the end of a run over a whole input reports the line for which it was refused, by the meaning `A` of its answer
+pub record ReportsWhole (A : List ℕ → AnswerText → Type 0) (before after : Outside) (end : TaskEnd) : Type 0 where
+  pub refusal : Option WholeRefusal
+  pub tells : TellsRefusal A before.left after.left end.status refusal
+  pub count : end.refusals.count ≡ count_told refusal
+  pub first : end.refusals.first ≡ first_told refusal
+
+-- what the end of a task reports
 abbrev pub TaskReports : Option ℕ → Task → Outside → Outside → TaskEnd → Type 0
 TaskReports limit Lines before after end = ReportsRefused RespellRule respell.IsAnswer
     (refusal_text respell.fault_message) (refusal_message respell.fault_message) 8 624 (limit_of limit) before after end
@@ -152,7 +170,9 @@ TaskReports limit (Ask form question) before after end = ReportsReturned (block_
     (IsLineBlock form question) (line_refusal form) 26 3307 (limit_of limit) before after end
 TaskReports limit (LaidOutAsk form question layout) before after end = ReportsLaid BlockRule without_return layout
     (IsLineBlock form question) (line_refusal form) message_of 26 3307 (limit_of limit) before after end
-TaskReports limit (Least rule) before after end = Unit {0}
-TaskReports limit (LaidOutLeast rule layout) before after end = Unit {0}
-TaskReports limit (Constants rule) before after end = Unit {0}
-TaskReports limit Columns before after end = Unit {0}
+TaskReports limit (Least rule) before after end = ReportsWhole (IsLeastWritten rule) before after end
+TaskReports limit (LaidOutLeast rule layout) before after end = ReportsWhole
+    (λ input. IsLeastWritten rule (laid_out (Some layout) input)) before after end
+TaskReports limit (Constants rule) before after end = ReportsWhole (IsPlainAnswer (IsRenamedAnswer
+    (constants.IsFormAnswer rule.form rule.guard.now))) before after end
+TaskReports limit Columns before after end = ReportsWhole columns.IsWholeAnswer before after end

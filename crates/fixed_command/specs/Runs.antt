@@ -7,15 +7,14 @@ use Rattle.fixed_enclose.specs.Answer as enclose
 use Rattle.fixed_respell.specs.Answer as respell
 use Rattle.line_engine.specs.AnswerText.{AnswerText}
 use Rattle.line_engine.specs.Asked.{AskedWithin}
-use Rattle.line_engine.specs.Failures.{HasFailed}
 use Rattle.line_engine.specs.Lines.{lines}
 use Rattle.line_engine.specs.Output.{AppendsPrefix, AreAnswers, written_of}
-use Rattle.line_engine.specs.Program.{Outside, outside}
+use Rattle.line_engine.specs.Program.{Outside}
 use Rattle.line_engine.specs.Run.{HasFailures, HasRun, Spends, WritesOutput}
-use Rattle.line_engine.specs.WholeRun.{HasWholeRun, WritesAnswer}
 use Rattle.line_engine.specs.declared.status.Status.{Status}
 use Rattle.line_engine.specs.declared.status.Status.TheVariants.{NoMemory, TooLong, WriteFault}
-use Rattle.run_engine.specs.Seen.{Moment}
+pub use Rattle.line_engine.specs.WholeRun.{IsWholeRun, Undisturbed}
+pub use Rattle.run_engine.specs.LineRun.{outside_at}
 use Rattle.fixed_command.specs.Convert.{IsLineReply, IsReply}
 use Rattle.fixed_command.specs.Errors.{IsErrorLine}
 use Rattle.fixed_command.specs.LaidList.{laid_out}
@@ -29,15 +28,6 @@ use Rattle.fixed_command.specs.declared.task.Task.{Task}
 use Rattle.fixed_command.specs.declared.task.Task.TheVariants.{Ask, Columns, Constants, Convert, Enclose, Errors}
 use Rattle.fixed_command.specs.declared.task.Task.TheVariants.{LaidOut, LaidOutAsk, LaidOutEnclose, LaidOutLeast}
 use Rattle.fixed_command.specs.declared.task.Task.TheVariants.{LaidOutLines, Least, Lines, Reported}
-
--- the visible state of a run at one moment, without the gathered bytes
-abbrev pub outside_at : Moment → Outside
-outside_at m = outside m.seen.left m.seen.asked m.seen.read_failures m.seen.written m.seen.write_failures m.steps
-
--- no read and no write failed
-abbrev pub Undisturbed : Outside → Outside → Type 0
-Undisturbed before after = (¬ HasFailed before.read_failures after.read_failures)
-    × (¬ HasFailed before.write_failures after.write_failures)
 
 -- a run over lines, by the meaning `A` of the answer to a line
 pub record HasLineRun (A : List ℕ → AnswerText → Type 0) (limit per_byte extra : ℕ) (before after : Outside)
@@ -61,32 +51,13 @@ pub record HasLineRun (A : List ℕ → AnswerText → Type 0) (limit per_byte e
   -- which count of failures rose, by status
   pub failures : HasFailures before.read_failures after.read_failures before.write_failures after.write_failures status
 
--- a run over a whole input, by the meaning `A` of its answer
-pub record IsWholeRun (A : List ℕ → AnswerText → Type 0) (limit : ℕ) (before after : Outside)
-    (status : Status) : Type 0 where
-  -- the answer to an input within the limit is written, or memory ran out
-  pub output : (input : List ℕ) → before.left ≡ Some input → length input ≤ limit → Undisturbed before after
-      → (status ≡ NoMemory) ⊎ WritesAnswer A input before.written after.written status
-  -- a longer input is reported, or memory ran out
-  pub too_long : (input : List ℕ) → before.left ≡ Some input → limit < length input → Undisturbed before after
-      → (status ≡ NoMemory) ⊎ (status ≡ TooLong)
-  -- what was taken and what was written, by status
-  pub run : HasWholeRun A limit before.left after.left before.written after.written status
-  -- a prefix of the answer, if a write failed
-  pub prefix_on_write_fault : status ≡ WriteFault → (input : List ℕ) (answer : AnswerText) → before.left ≡ Some input
-      → A input answer → AppendsPrefix before.written after.written answer.text
-  -- what reads requested of the source
-  pub asked : AskedWithin limit before.asked after.asked
-  -- which count of failures rose, by status
-  pub failures : HasFailures before.read_failures after.read_failures before.write_failures after.write_failures status
-
 -- the most steps that a line costs with a report, for each of its bytes and besides them: its numeral is converted,
 -- read again, and compared with the longest that may have been kept
 abbrev pub reported_per_byte : ℕ
-reported_per_byte = 52
+reported_per_byte = 67
 
 abbrev pub reported_extra : ℕ
-reported_extra = 20973788
+reported_extra = 20974641
 
 -- the run of a task over an input within a limit
 abbrev pub TaskRuns : Option ℕ → Task → Outside → Outside → Status → Type 0

@@ -1,9 +1,8 @@
 -- What is recorded of refused lines.
-use Rattle.std.specs.Prelude.{ℕ, List, [], ◌∷◌, ◌++◌, ◌-◌, codes, get_or, take}
-use Rattle.std.specs.Fmt.{decimal}
+use Rattle.std.specs.Prelude.{ℕ, List, take}
 use Rattle.std.specs.declared.option.Option.{Option}
 use Rattle.std.specs.declared.option.Option.TheVariants.{None, Some}
-use Rattle.line_engine.specs.Lines.{lines}
+use Rattle.line_engine.specs.declared.refusal.WholeRefusal.{WholeRefusal}
 use Rattle.fixed_command.specs.declared.watch.RefusedLine.{RefusedLine}
 
 -- how many bytes are kept of a line, and of the message of its refusal
@@ -19,10 +18,11 @@ first_refused None number line message = Some (record {
 })
 first_refused (Some first) number line message = Some first
 
--- the answer to an input that is refused for the line of this number, from 1
-abbrev pub refusal_text : ℕ → List ℕ → List ℕ
-refusal_text number message = codes "error: line " ++ (decimal number ++ (codes ": " ++ (message ++ 10 ∷ [])))
+-- the count of the refused lines of a whole input, and the first
+abbrev pub count_told : Option WholeRefusal → ℕ
+count_told None = 0
+count_told (Some refusal) = 1
 
--- the line of this number, from 1; empty if there is none
-abbrev pub line_at : ℕ → List ℕ → List ℕ
-line_at number input = get_or (lines input) (number - 1) []
+abbrev pub first_told : Option WholeRefusal → Option RefusedLine
+first_told None = None
+first_told (Some refusal) = first_refused None refusal.number refusal.line refusal.cause.items

@@ -6,8 +6,12 @@ ghost use Rattle.fixed_command.specs.Convert.{without_return};
 ghost use Rattle.fixed_command.specs.Explained.{looked_at};
 ghost use Rattle.fixed_numeral.specs.Numeral.{IsNumeral};
 ghost use Rattle.fixed_numeral.specs.declared.radix.Radix.{Radix};
-ghost use Rattle.fixed_command.specs.Amounts.{HasAmountsRun};
+ghost use Rattle.fixed_amounts.specs.Reply.{fault_text};
+ghost use Rattle.fixed_command.specs.Amounts.{HasAmountsRun, IsAmountLine};
 ghost use Rattle.fixed_command.specs.Limits.{limit_of};
+ghost use Rattle.fixed_command.specs.Rejects.{RejectsRun};
+ghost use Rattle.fixed_command.specs.Reports.{NoNote};
+ghost use Rattle.fixed_respell.specs.Refusal.{refusal_message, refusal_text};
 ghost use Rattle.line_engine.specs.Program.{outside};
 ghost use Rattle.line_engine.specs.declared.status.Status.{Status};
 
@@ -15,14 +19,15 @@ use crate::convert::without_return;
 use crate::explain_field::numeral_of;
 use crate::field::{FieldForm, FieldReply};
 use crate::layout::Layout;
-use crate::task::{Limit, bytes_within};
+use crate::task::{Limit, run_rule};
 use fixed_amounts::{
     AmountFault, AmountRefusal, AmountSettings, MAX_OVERFLOW, overflow_explanation, push_reply,
 };
 use fixed_respell::{Refusal, push_fault};
 use fixed_steps::Steps;
 use line_engine::{MAX_ANSWER, MAX_LINE, Output, Sink, Source, Status};
-use run_engine::{LineRule, LinesEnd, Refusals, Rule, push_error, run_watched};
+use line_rejects::Rejects;
+use run_engine::{LineRule, LinesEnd, Refusals, Rule, push_error};
 use std::alloc::Global;
 use std::sync::ledger::Ledger;
 use text_buffer::TextBuffer;
@@ -149,10 +154,11 @@ pub fn amount_field_explanation<L: Ledger>(
 
 /// Answers each line of an input within the limit with its amount. It allocates one line buffer before the first read.
 /// `NoMemory`: there was no memory for it. Returns how that ended, with the count of the refused lines and the first.
-pub fn run_amounts<S: Source, K: Sink, L: Ledger>(
+pub fn run_amounts<S: Source, K: Sink, J: Sink + Drop, L: Ledger>(
     alloc: Global,
     limit: &Option<Limit>,
     lines: &AmountLines,
+    rejects: &mut Rejects<'_, J>,
     source: &mut S,
     sink: &mut K,
     steps: &mut Steps<L>,
@@ -164,18 +170,19 @@ pub fn run_amounts<S: Source, K: Sink, L: Ledger>(
         (outside (S.left source.new) (S.asked source.new) (S.failures source.new) (K.written sink.new)
         (K.failures sink.new) steps.new) result.status result.watch }
 
+    // Which lines of rejects it puts.
+    ensures rejects { ¬ (result.status ≡ Status.NoMemory) → RejectsRun lines.now (IsAmountLine lines.now) NoNote
+        (refusal_text fault_text) without_return (refusal_message fault_text) 8 128 (limit_of limit.now) J.written
+        J.failures
+        (outside (S.left source.old) (S.asked source.old) (S.failures source.old) (K.written sink.old)
+        (K.failures sink.old) steps.old)
+        (outside (S.left source.new) (S.asked source.new) (S.failures source.new) (K.written sink.new)
+        (K.failures sink.new) steps.new) result.status rejects.old rejects.new }
+
     // Nothing was read or written.
     ensures memory { result.status ≡ Status.NoMemory
         → (source.new ≡ source.old) × (sink.new ≡ sink.old) × (steps.new ≡ steps.old) }
 {
     let refusals = Refusals::new();
-    run_watched(
-        alloc,
-        bytes_within(limit),
-        lines,
-        refusals,
-        source,
-        sink,
-        steps,
-    )
+    run_rule(alloc, limit, lines, refusals, rejects, source, sink, steps)
 }

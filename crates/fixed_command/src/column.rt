@@ -1,23 +1,17 @@
 //! Converts columns of a CSV text, also into amounts; every other byte stays unchanged.
 
-ghost use Rattle.std.specs.Prelude.{◌≡◌, ◌⊎◌, List, ℕ};
+ghost use Rattle.std.specs.Prelude.{◌≡◌, ◌⊎◌};
 ghost use Rattle.column_engine.specs.Run.{HasFailures, counts_of, first_state};
 ghost use Rattle.column_engine.specs.Skip.{HasRunAfter};
 ghost use Rattle.column_engine.specs.declared.end.Stop.{Stop};
-ghost use Rattle.fixed_amounts.specs.Reply.{IsReply};
-ghost use Rattle.fixed_command.specs.Convert.{IsLineReply, without_return};
-ghost use Rattle.fixed_command.specs.Fields.{IsFieldReply, has_amount_point, has_point, kept_of};
-ghost use Rattle.fixed_numeral.specs.declared.radix.Radix.{Radix as RadixOf};
+ghost use Rattle.fixed_command.specs.Fields.{has_amount_point, has_point, kept_of};
 
-use crate::ConvertRule;
-use crate::field::{FieldForm, FieldNumerals};
-use crate::field_report::{FieldReport, ReportedNumerals};
+use crate::field::FieldForm;
 use crate::print::Print;
 use column_engine::{
-    Column, ColumnEnd, ColumnTask, ColumnWatch, Destination, FieldRule, Keeping, Stop, run_column,
+    Column, ColumnRun, ColumnTask, Destination, FieldRule, FieldWatch, Keeping, Stop, run_column,
 };
-use fixed_amounts::{AmountPrint, AmountSettings};
-use fixed_numeral::Radix;
+use fixed_amounts::AmountPrint;
 use fixed_steps::Steps;
 use line_engine::{Sink, Source};
 use std::alloc::Global;
@@ -44,8 +38,8 @@ pub struct ColumnConversion<'a, R> {
     pub delimiter: u8,
 }
 
-/// Whether a part of an answer has a number with a point.
-fn has_point(print: Print) -> bool
+/// Whether a part of an answer has a number that may have a point.
+pub fn has_point(print: Print) -> bool
     ensures { result ≡ has_point print }
 {
     match print {
@@ -54,8 +48,8 @@ fn has_point(print: Print) -> bool
     }
 }
 
-/// Whether a part of an amount has a point.
-fn has_amount_point(print: AmountPrint) -> bool
+/// Whether a part of an amount may have a point.
+pub fn has_amount_point(print: AmountPrint) -> bool
     ensures { result ≡ has_amount_point print }
 {
     match print {
@@ -74,25 +68,34 @@ fn kept_of<R>(conversion: &ColumnConversion<'_, R>, has_point: bool) -> Keeping
     }
 }
 
-/// Converts columns of the records of a text by a rule.
-fn convert_by<R, A: FieldRule<L>, S: Source, K: Sink, L: Ledger>(
+/// Converts columns of the records of a text by a rule for their fields, such as `FieldNumerals`. Returns how the run
+/// ended, with the observer, which is told of each field. `has_point`: whether what is written for a numeral may have a
+/// point. Every other byte of the text is written unchanged.
+pub fn convert_fields<R, A: FieldRule<L>, W: FieldWatch<A, L>, S: Source, K: Sink, L: Ledger>(
     alloc: Global,
     conversion: &ColumnConversion<'_, R>,
-    keeps: Keeping,
+    has_point: bool,
     rule: &A,
-    watch: &ColumnWatch,
+    observer: W,
     source: &mut S,
     sink: &mut K,
     steps: &mut Steps<L>,
-) -> ColumnEnd
-    ensures run { (result.stop ≡ Stop.NoMemory)
-        ⊎ HasRunAfter conversion.now.skipped result.stop (A.Answers rule.now) keeps
+) -> ColumnRun<W>
+    // What was read and written, by how the run ended.
+    ensures run { (result.end.stop ≡ Stop.NoMemory)
+        ⊎ HasRunAfter conversion.now.skipped result.end.stop (A.Answers rule.now)
+        (kept_of conversion.now.is_kept conversion.now.form.mark has_point)
         conversion.now.delimiter conversion.now.columns.items
         (first_state conversion.now.has_header conversion.now.destination conversion.now.columns.items)
-        (counts_of result) (S.left source.old) (S.left source.new) (K.written sink.old) (K.written sink.new) }
+        (counts_of result.end)
+        (S.left source.old) (S.left source.new) (K.written sink.old) (K.written sink.new) }
+
+    // Which count of failures rose.
     ensures failures { HasFailures (S.failures source.old) (S.failures source.new) (K.failures sink.old)
-        (K.failures sink.new) result.stop }
-    ensures memory { result.stop ≡ Stop.NoMemory → (source.new ≡ source.old) × (sink.new ≡ sink.old) }
+        (K.failures sink.new) result.end.stop }
+
+    // If there was no memory, nothing was read or written.
+    ensures memory { result.end.stop ≡ Stop.NoMemory → (source.new ≡ source.old) × (sink.new ≡ sink.old) }
 {
     let task = ColumnTask {
         rule,
@@ -100,94 +103,8 @@ fn convert_by<R, A: FieldRule<L>, S: Source, K: Sink, L: Ledger>(
         columns: &conversion.columns,
         destination: &conversion.destination,
         has_header: conversion.has_header,
-        keeps,
+        keeps: kept_of(conversion, has_point),
         delimiter: conversion.delimiter,
-        watch,
     };
-    run_column(alloc, &task, source, sink, steps)
-}
-
-/// Converts columns of the records of a text, and returns how the run ended. A field is answered as `run_convert`
-/// answers a line with its numeral, and every other byte of the text is written unchanged. The watch keeps the reports
-/// of refused fields, and the report, if requested, keeps the outcomes.
-pub fn convert_column<S: Source, K: Sink, L: Ledger>(
-    alloc: Global,
-    conversion: &ColumnConversion<'_, ConvertRule>,
-    watch: &ColumnWatch,
-    report: Option<&FieldReport<'_>>,
-    source: &mut S,
-    sink: &mut K,
-    steps: &mut Steps<L>,
-) -> ColumnEnd
-    // What was read and written, by how the run ended.
-    ensures run { (result.stop ≡ Stop.NoMemory)
-        ⊎ HasRunAfter conversion.now.skipped result.stop
-        (IsFieldReply conversion.now.form conversion.now.rule.radix (IsLineReply conversion.now.rule))
-        (kept_of conversion.now.is_kept conversion.now.form.mark (has_point conversion.now.rule.print))
-        conversion.now.delimiter conversion.now.columns.items
-        (first_state conversion.now.has_header conversion.now.destination conversion.now.columns.items)
-        (counts_of result)
-        (S.left source.old) (S.left source.new) (K.written sink.old) (K.written sink.new) }
-
-    // Which count of failures rose.
-    ensures failures { HasFailures (S.failures source.old) (S.failures source.new) (K.failures sink.old)
-        (K.failures sink.new) result.stop }
-
-    // If there was no memory, nothing was read or written.
-    ensures memory { result.stop ≡ Stop.NoMemory → (source.new ≡ source.old) × (sink.new ≡ sink.old) }
-{
-    let settings = conversion.rule.settings();
-    let keeps = kept_of(conversion, has_point(settings.print));
-    let numerals = FieldNumerals {
-        rule: &conversion.rule,
-        radix: settings.radix,
-        form: &conversion.form,
-    };
-    match report {
-        None => convert_by(
-            alloc, conversion, keeps, &numerals, watch, source, sink, steps,
-        ),
-        Some(report) => {
-            let rule = ReportedNumerals { numerals, report };
-            convert_by(alloc, conversion, keeps, &rule, watch, source, sink, steps)
-        }
-    }
-}
-
-/// Converts columns of the records of a text into amounts, and returns how the run ended. A field is answered like a
-/// line with its numeral; every other byte of the text is written unchanged.
-pub fn convert_amounts<S: Source, K: Sink, L: Ledger>(
-    alloc: Global,
-    conversion: &ColumnConversion<'_, AmountSettings>,
-    watch: &ColumnWatch,
-    source: &mut S,
-    sink: &mut K,
-    steps: &mut Steps<L>,
-) -> ColumnEnd
-    // What was read and written, by how the run ended.
-    ensures run { (result.stop ≡ Stop.NoMemory)
-        ⊎ HasRunAfter conversion.now.skipped result.stop
-        (IsFieldReply conversion.now.form RadixOf.Dec (λ line. IsReply conversion.now.rule (without_return line)))
-        (kept_of conversion.now.is_kept conversion.now.form.mark (has_amount_point conversion.now.rule.print))
-        conversion.now.delimiter conversion.now.columns.items
-        (first_state conversion.now.has_header conversion.now.destination conversion.now.columns.items)
-        (counts_of result)
-        (S.left source.old) (S.left source.new) (K.written sink.old) (K.written sink.new) }
-
-    // Which count of failures rose.
-    ensures failures { HasFailures (S.failures source.old) (S.failures source.new) (K.failures sink.old)
-        (K.failures sink.new) result.stop }
-
-    // If there was no memory, nothing was read or written.
-    ensures memory { result.stop ≡ Stop.NoMemory → (source.new ≡ source.old) × (sink.new ≡ sink.old) }
-{
-    let keeps = kept_of(conversion, has_amount_point(conversion.rule.print));
-    let numerals = FieldNumerals {
-        rule: &conversion.rule,
-        radix: Radix::Dec,
-        form: &conversion.form,
-    };
-    convert_by(
-        alloc, conversion, keeps, &numerals, watch, source, sink, steps,
-    )
+    run_column(alloc, &task, observer, source, sink, steps)
 }

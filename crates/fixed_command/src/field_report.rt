@@ -1,21 +1,21 @@
-//! The outcomes of the conversions of fields, and the greatest error. The contract of a function says what is kept of a
-//! field. Contracts cannot describe the contents of a `Cell`; tests do.
+//! The outcomes of the conversions of fields, and the greatest error.
 
-ghost use Rattle.std.specs.Prelude.{◌≡◌, ◌==◌, ◌≤◌, ◌+◌, ◌*◌, ◌∷◌, [], if◌then◌else◌, length};
+ghost use Rattle.std.specs.Prelude.{◌≡◌, ◌≢◌, ◌==◌, ◌≤◌, ◌+◌, ◌*◌, ◌∷◌, [], IfSome, false, if◌then◌else◌, length};
 ghost use Rattle.column_engine.specs.Limits.{longest_record};
-ghost use Rattle.fixed_command.specs.Fields.{IsEmptyOutcome, IsFieldOutcome, IsReadOutcome, bare};
 ghost use Rattle.fixed_command.specs.Convert.{without_return};
+ghost use Rattle.fixed_command.specs.FieldReports.{first_place, no_fields, noted_field};
+ghost use Rattle.fixed_command.specs.Fields.{IsEmptyOutcome, IsFieldOutcome, IsReadOutcome, bare, field_numeral};
+ghost use Rattle.fixed_command.specs.Observed.{ErrorAddedIf};
+ghost use Rattle.fixed_command.specs.Outcome.{has_error};
 ghost use Rattle.fixed_report.specs.Report.{add_extra, add_per_byte};
 
 use crate::ConvertRule;
 use crate::convert::without_return;
 use crate::field::{Empty, FieldForm, FieldNumerals, bare, is_misplaced, write_read};
 use crate::outcome::{Outcome, Tally, has_error, outcome_of};
-use column_engine::{ColumnWatch, FieldPlace, FieldRule, RecordBuffer};
+use column_engine::{FieldPlace, FieldWatch, RecordBuffer};
 use fixed_report::ErrorReport;
 use fixed_steps::Steps;
-use line_engine::Output;
-use std::cell::Cell;
 use std::sync::ledger::Ledger;
 
 /// Returns the outcome of the conversion of a line.
@@ -53,7 +53,9 @@ pub fn field_outcome<L: Ledger>(
     steps: &mut Steps<L>,
 ) -> Option<Outcome>
     requires { length field.now ≤ longest_record }
-    ensures { IsFieldOutcome form.now rule.now field.now result }
+    ensures outcome { IsFieldOutcome form.now rule.now field.now result }
+    ensures read { IfSome result (λ outcome. outcome ≢ Outcome.Refused → (length (bare form.now field.now) == 0) ≡ false
+        → scratch.new ≡ field_numeral form.now field.now) }
 {
     let bytes = bare(form, field);
     if bytes.is_empty() {
@@ -79,116 +81,99 @@ fn numeral_read<'s>(form: &FieldForm<'_>, field: &[u8], scratch: &'s RecordBuffe
 
 /// The counts of a text's fields by outcome, where the first one overflowed or was refused, and the greatest error.
 #[derive(Drop)]
-pub struct FieldReport<'w> {
-    watch: &'w ColumnWatch,
-    tally: Cell<Tally>,
-    overflowed: Cell<Option<FieldPlace>>,
-    refused: Cell<Option<FieldPlace>>,
-    errors: Cell<Option<ErrorReport>>,
+pub struct FieldReport {
+    /// The counts, with the numbers of records.
+    pub tally: Tally,
+    /// Where the first field is that overflowed.
+    pub first_overflowed: Option<FieldPlace>,
+    /// Where the first field is that was refused.
+    pub first_refused: Option<FieldPlace>,
+    /// The greatest error, with the number of its record.
+    pub errors: ErrorReport,
 }
 
-impl<'w> FieldReport<'w> {
-    /// Returns a report of no fields. The watch knows where a field is, and `errors` keeps the greatest error.
-    pub fn new(watch: &'w ColumnWatch, errors: ErrorReport) -> FieldReport<'w> {
+/// Returns the first place: `first`, if there is one, or else `place`.
+fn first_of(first: Option<FieldPlace>, place: FieldPlace) -> Option<FieldPlace>
+    ensures { result ≡ first_place first place }
+{
+    match first {
+        Some(_) => first,
+        None => Some(place),
+    }
+}
+
+impl FieldReport {
+    /// Returns a report of no fields, in which `errors` keeps the greatest error.
+    pub fn new(errors: ErrorReport) -> FieldReport
+        ensures { result ≡ no_fields errors }
+    {
         FieldReport {
-            watch,
-            tally: Cell::new(Tally::new()),
-            overflowed: Cell::new(None),
-            refused: Cell::new(None),
-            errors: Cell::new(Some(errors)),
+            tally: Tally::new(),
+            first_overflowed: None,
+            first_refused: None,
+            errors,
         }
     }
 
-    /// Returns the counts of fields by outcome.
-    pub fn tally(&self) -> Tally {
-        self.tally.get()
+    /// Notes the outcome of a field.
+    fn note(&mut self, place: FieldPlace, outcome: Outcome)
+        ensures { self.new ≡ noted_field self.old place outcome }
+    {
+        match outcome {
+            Outcome::Exact | Outcome::Rounded => (),
+            Outcome::Overflowed => {
+                self.first_overflowed = first_of(self.first_overflowed, place);
+            }
+            Outcome::Refused => self.first_refused = first_of(self.first_refused, place),
+        }
+        self.tally.note(place.record, outcome);
     }
 
-    /// Returns where the first field is that overflowed.
-    pub fn first_overflowed(&self) -> Option<FieldPlace> {
-        self.overflowed.get()
-    }
-
-    /// Returns where the first field is that was refused.
-    pub fn first_refused(&self) -> Option<FieldPlace> {
-        self.refused.get()
-    }
-
-    /// Takes what is kept of the greatest error.
-    pub fn errors(&self) -> Option<ErrorReport> {
-        self.errors.replace(None)
-    }
-
-    /// Notes that the numeral of the answered field has an error.
-    fn note_error<L: Ledger>(&self, numeral: &[u8], steps: &mut Steps<L>)
+    /// Records the error of the numeral of a field in the record of this number, if its outcome has one.
+    fn add_error<L: Ledger>(
+        &mut self,
+        rule: &ConvertRule,
+        number: u64,
+        numeral: &[u8],
+        outcome: Outcome,
+        steps: &mut Steps<L>,
+    )
+        ensures same { self.new ≡ record self.old { errors = self.new.errors } }
+        ensures errors { ErrorAddedIf (has_error rule.now.spelling outcome) self.old.errors number numeral.now
+            self.new.errors }
         ensures cost { steps.new ≤ steps.old + add_per_byte * length numeral.now + add_extra }
     {
-        if let Some(mut errors) = self.errors() {
-            errors.add(numeral, self.watch.place().record, steps);
-            self.errors.set(Some(errors));
+        if has_error(rule.settings().spelling, outcome) {
+            self.errors.add(numeral, number, steps);
         }
-    }
-
-    /// Notes the outcome of the answered field.
-    fn note(&self, outcome: Outcome) {
-        let place = self.watch.place();
-        let mut tally = self.tally.get();
-        if outcome == Outcome::Overflowed && tally.first_overflowed == 0 {
-            self.overflowed.set(Some(place));
-        }
-        if outcome == Outcome::Refused && tally.first_refused == 0 {
-            self.refused.set(Some(place));
-        }
-        tally.note(place.record, outcome);
-        self.tally.set(tally);
     }
 }
 
-/// The rule of a conversion of fields that keeps their outcomes.
-#[derive(Drop)]
-pub struct ReportedNumerals<'a> {
-    /// The rule.
-    pub numerals: FieldNumerals<'a, ConvertRule>,
-    /// Where the outcomes are kept.
-    pub report: &'a FieldReport<'a>,
-}
+impl<'a, L: Ledger> FieldWatch<FieldNumerals<'a, ConvertRule>, L> for FieldReport {
+    ghost use Rattle.fixed_command.specs.FieldReports.{SawField};
 
-impl<'a, L: Ledger> FieldRule<L> for ReportedNumerals<'a> {
-    ghost use Rattle.fixed_command.specs.Convert.{IsLineReply};
-    ghost use Rattle.fixed_command.specs.Fields.{IsFieldReply};
-    ghost use Rattle.fixed_command.specs.Lemmas.FieldLemmas.{field_reply_one};
-    ghost use Rattle.fixed_command.specs.Lemmas.ReplyLemmas.{line_reply_one};
+    ghost Saw = { λ fields report place field reply after. SawField fields.form.now fields.rule.now report place field
+        reply after };
 
-    ghost Answers = { λ reported. IsFieldReply reported.numerals.form.now reported.numerals.radix
-        (IsLineReply reported.numerals.rule.now) };
-
-    fn answer(
-        &self,
+    fn see(
+        &mut self,
+        fields: &FieldNumerals<'a, ConvertRule>,
+        place: FieldPlace,
         field: &[u8],
+        _reply: &[u8],
+        is_refused: bool,
         scratch: &mut RecordBuffer,
-        out: &mut Output,
         steps: &mut Steps<L>,
-    ) -> bool {
-        let numerals = &self.numerals;
-        let is_refused = numerals.answer(field, scratch, out, steps);
+    ) {
         if is_refused {
-            self.report.note(Outcome::Refused);
-        } else if let Some(outcome) = field_outcome(
-            numerals.form,
-            numerals.rule,
-            field,
-            scratch,
-            steps,
-        ) {
-            self.report.note(outcome);
-            if has_error(numerals.rule.settings().spelling, outcome) {
-                self.report
-                    .note_error(numeral_read(numerals.form, field, scratch), steps);
-            }
+            self.note(place, Outcome::Refused);
+            return;
         }
-        is_refused
+        let rule = fields.rule;
+        if let Some(outcome) = field_outcome(fields.form, rule, field, scratch, steps) {
+            self.note(place, outcome);
+            let numeral = numeral_read(fields.form, field, scratch);
+            self.add_error(rule, place.record, numeral, outcome, steps);
+        }
     }
-
-    ghost one_law = { λ reported. field_reply_one reported.numerals.form.now reported.numerals.radix
-        (IsLineReply reported.numerals.rule.now) (line_reply_one reported.numerals.rule.now) };
 }

@@ -4,6 +4,7 @@ ghost use Rattle.fixed_command.specs.Explained.{BytesAreTheOnes, OverflowIsTheOn
 ghost use Rattle.fixed_command.specs.Laws.{OutcomeIsTheOne, PrintedBitsAreWords};
 ghost use Rattle.fixed_command.specs.LineBlocks.{LineBlockIsTheOne};
 ghost use Rattle.fixed_command.specs.NameLaws.{NamesAreTheOnes};
+ghost use Rattle.fixed_command.specs.Rejects.{RejectsAreTheLines};
 ghost use Rattle.fixed_command.specs.RunLaws.{
   BlocksEndIsTheOne,
   FirstRefusedIsTheOne,
@@ -14,7 +15,9 @@ ghost use Rattle.fixed_command.specs.RunLaws.{
 };
 ghost use Rattle.fixed_command.specs.ShownNames.{ShownNamesAreNames};
 
-use line_engine::{LineRule, WholeRule};
+use line_engine::{Sink, WholeRule};
+use line_rejects::Rejects;
+use run_engine::Rule;
 use std::sync::ledger::Ledger;
 
 /// Bits printed in decimal or hexadecimal are read back as the same bits.
@@ -45,7 +48,7 @@ pub fn blocks_end_is_the_one()
 
 /// Two runs of a rule over lines on one input within the limit, with memory and without failures, write the same and
 /// end alike.
-pub fn line_run_is_the_one<R: LineRule<L>, L: Ledger>(_rule: &R)
+pub fn line_run_is_the_one<R: Rule<L>, L: Ledger>(_rule: &R)
     ensures { LineRunIsTheOne (R.Answers _rule.now) }
 {}
 
@@ -78,4 +81,10 @@ pub fn bytes_are_the_ones()
 /// The explanation of an overflow is one text.
 pub fn overflow_is_the_one()
     ensures { OverflowIsTheOne }
+{}
+
+/// Rejects that saw the lines of a run got one line for each refused line, in order, and nothing else; if a write
+/// failed, a prefix of these was written.
+pub fn rejects_are_the_lines<N, C, J: Sink>(_rejects: &Rejects<'_, J>, _note: &N, _cause: &C)
+    ensures { RejectsAreTheLines N C J.written J.failures _rejects.now }
 {}

@@ -1,7 +1,8 @@
 //! The least format that holds a list, for people: 248 lines that rule out as many formats come only if requested.
 
-ghost use Rattle.std.specs.Prelude.{◌≡◌, IfOk};
+ghost use Rattle.std.specs.Prelude.{◌≡◌, IfOk, IsTrue, false};
 ghost use Rattle.fixed_command.specs.LeastLines.{none_line, says_none};
+ghost use Rattle.line_engine.specs.Refusals.{reply_of};
 
 use fixed_least::LeastRule;
 use fixed_numeral::Radix;
@@ -21,10 +22,14 @@ pub struct LeastLines {
 }
 
 /// Whether an answer says that no format is left.
-fn says_none(text: &[u8]) -> bool
-    ensures { result ≡ says_none text.now }
+fn says_none(answer: &WholeAnswer) -> bool
+    ensures none { result ≡ says_none (reply_of answer.now).text }
+    ensures text { IsTrue result → (reply_of answer.now).fault ≡ false }
 {
-    text.starts_with(b"none\n")
+    match answer {
+        WholeAnswer::Text(text) => text.starts_with(b"none\n"),
+        WholeAnswer::Refused { .. } => false,
+    }
 }
 
 /// Returns the answer that no format is left, without reasons.
@@ -50,11 +55,11 @@ impl<L: Ledger> WholeRule<L> for LeastLines {
     ) -> Result<WholeAnswer, NoMemory> {
         let rule = LeastRule { radix: self.radix };
         let answer = rule.answer(alloc, input, steps)?;
-        if self.is_reason_asked || !says_none(answer.as_bytes()) {
+        if self.is_reason_asked || !says_none(&answer) {
             return Ok(answer);
         }
         match none_text(alloc) {
-            Ok(text) => Ok(WholeAnswer::new(text, answer.is_fault())),
+            Ok(text) => Ok(WholeAnswer::Text(text)),
             Err(_) => Err(NoMemory),
         }
     }

@@ -22,11 +22,12 @@ pub mod layout;
 pub mod least_lines;
 pub mod line_blocks;
 pub mod message;
-mod named_line;
 pub mod observed;
 pub mod outcome;
 pub mod print;
 pub mod refused;
+pub mod refused_fields;
+pub mod rejecting;
 pub mod renamed;
 pub mod spelling;
 pub mod swapped;
@@ -36,13 +37,13 @@ pub mod words;
 
 pub use amounts::{AmountLines, amount_field_explanation, run_amounts};
 pub use blocks::{Question, run_blocks};
-pub use column::{ColumnConversion, convert_amounts, convert_column};
+pub use column::{ColumnConversion, convert_fields, has_amount_point, has_point};
 pub use convert::{ConvertRule, Settings, push_image, without_return};
 pub use error_lines::{ErrorLines, ErrorSettings};
 pub use explain::explanation;
 pub use explain_field::field_explanation;
 pub use field::{Empty, FieldForm, FieldNumerals, FieldReply};
-pub use field_report::{FieldReport, ReportedNumerals, field_outcome};
+pub use field_report::{FieldReport, field_outcome};
 pub use fixed_show::{Form, Measure, Part};
 pub use hex::{push_hex, word_of};
 pub use hint::Offers;
@@ -58,14 +59,17 @@ pub use outcome::{
 };
 pub use print::{Places, Print};
 pub use refused::{RefusedWord, first_refused};
+pub use refused_fields::RefusedFields;
+pub use rejecting::{Rejecting, ShowsLines};
 pub use renamed::RenamedRule;
 pub use run_engine::status_of;
 pub use spelling::Spelling;
 pub use swapped::SwappedRule;
 pub use task::{
-    Limit, Task, TaskEnd, bytes_within, greater_end, run_convert, run_task, whole_within,
+    Limit, Task, TaskEnd, bytes_within, greater_end, run_convert, run_task, run_whole_rule,
+    whole_within,
 };
-pub use watch::{Refusals, RefusedLine, Watch};
+pub use watch::{Refusals, RefusedLine};
 pub use words::{
     mode_named, policy_named, print_named, radix_named, spelling_named, target_mode_named,
 };

@@ -3,7 +3,7 @@
 ghost use Rattle.std.specs.Prelude.{◌≡◌, ◌≤◌, ◌+◌, ◌*◌, [], None, length};
 ghost use Rattle.fixed_command.specs.Observed.{ErrorAdded, IsLineOutcome, reported_of};
 ghost use Rattle.fixed_command.specs.Reports.{no_tally};
-ghost use Rattle.fixed_report.specs.Report.{HasReport, add_extra, add_per_byte};
+ghost use Rattle.fixed_report.specs.Report.{HasReport, HasSums, add_extra, add_per_byte};
 
 use crate::convert::without_return;
 use crate::layout::LaidOutRule;
@@ -197,6 +197,8 @@ impl LineReport {
         ensures tally { result.tally ≡ no_tally }
         ensures errors { HasReport laid.now.rule.mode laid.now.rule.radix laid.now.rule.source [] result.errors.lost
             result.errors.greatest }
+        ensures sums { HasSums laid.now.rule.mode laid.now.rule.radix laid.now.rule.source [] result.errors.lost
+            result.errors.sums }
     {
         LineReport {
             refusals: Refusals::new(),

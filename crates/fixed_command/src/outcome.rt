@@ -10,7 +10,7 @@ ghost use Rattle.fixed_command.specs.Outcome.{IsOutcome, IsWholeMoved, IsWholeSo
 ghost use Rattle.fixed_command.specs.Outcome.{has_error, one_more, outcome_by, place_text, tally_text, total};
 ghost use Rattle.fixed_command.specs.Convert.{IsSource};
 ghost use Rattle.fixed_read.specs.Reading.{IsMultipleOf};
-ghost use Rattle.fixed_report.specs.Report.{HasReport};
+ghost use Rattle.fixed_report.specs.Report.{HasReport, HasSums};
 
 use crate::convert::{Settings, frac_of, source_number};
 use crate::spelling::Spelling;
@@ -159,6 +159,7 @@ pub fn error_report(alloc: Global, settings: &Settings) -> ErrorReport
     ensures mode { result.mode ≡ settings.now.mode }
     ensures none { HasReport settings.now.mode settings.now.radix settings.now.source [] result.lost
         result.greatest }
+    ensures no_sums { HasSums settings.now.mode settings.now.radix settings.now.source [] result.lost result.sums }
 {
     ErrorReport::new(alloc, settings.radix, settings.source, settings.mode)
 }

@@ -16,16 +16,19 @@ ghost use Rattle.fixed_command.specs.LeastLines.{IsLeastWritten};
 ghost use Rattle.fixed_command.specs.Limits.{limit_of, max_limit, no_limit, whole_limit_of};
 ghost use Rattle.fixed_command.specs.LineBlocks.{IsLineBlock, line_refusal};
 ghost use Rattle.fixed_command.specs.Message.{message_text};
+ghost use Rattle.fixed_command.specs.Observed.{IsLineOutcome};
 ghost use Rattle.fixed_command.specs.Products.{IsProduct};
+ghost use Rattle.fixed_command.specs.Rejects.{RejectsLaid, RejectsNamed, RejectsRun, TaskRejects};
 ghost use Rattle.fixed_command.specs.Renamed.{IsRenamedAnswer};
 ghost use Rattle.fixed_command.specs.Reports.{ReportsCounted, ReportsLaid, ReportsRefused, ReportsReturned};
-ghost use Rattle.fixed_command.specs.Reports.{TaskReports, block_rule, message_of};
+ghost use Rattle.fixed_command.specs.Reports.{ReportsWhole};
+ghost use Rattle.fixed_command.specs.Reports.{NoNote, TaskReports, block_rule, message_of};
 ghost use Rattle.fixed_command.specs.declared.line_blocks.BlockRule.{BlockRule};
 ghost use Rattle.fixed_enclose.specs.declared.rule.EncloseRule.{EncloseRule};
 ghost use Rattle.fixed_respell.specs.Refusal.{refusal_message, refusal_text};
 ghost use Rattle.fixed_respell.specs.declared.respell_rule.RespellRule.{RespellRule};
 ghost use Rattle.fixed_command.specs.Runs.{HasLineRun, IsWholeRun, TaskRuns, reported_extra, reported_per_byte};
-ghost use Rattle.line_engine.specs.WholeRun.{EndsBeforeWriting};
+ghost use Rattle.line_engine.specs.Refusals.{IsWritten};
 ghost use Rattle.run_engine.specs.LineRun.{HasLinesRun};
 ghost use Rattle.run_engine.specs.Reply.{Returns};
 
@@ -37,10 +40,11 @@ use crate::laid_list::LaidOutList;
 use crate::layout::{LaidOutRule, Layout};
 use crate::least_lines::LeastLines;
 use crate::line_blocks::BlockRule;
-use crate::observed::{CountedRule, LineReport, RefusedLines, reported};
+use crate::observed::{CountedRule, LineReport, RefusedLines, Worded, reported};
 use crate::outcome::Tally;
+use crate::rejecting::{Rejecting, ShowsLines};
 use crate::renamed::RenamedRule;
-use crate::watch::{Product, Refusals, Watch, WatchedWhole};
+use crate::watch::Refusals;
 use fixed_columns::ColumnsRule;
 use fixed_constants::{FormRule, PlainRule};
 use fixed_enclose::EncloseRule;
@@ -48,10 +52,12 @@ use fixed_report::ErrorReport;
 use fixed_respell::RespellRule;
 use fixed_show::Form;
 use fixed_steps::Steps;
-use line_engine::{MAX_LIMIT, NO_LIMIT, Sink, Source, Status, WholeRule, run_whole};
-use run_engine::{LineRule, LinesEnd, Refusals as Refused, Watch as Observer, run_watched};
+use line_engine::{MAX_LIMIT, NO_LIMIT, Sink, Source, Status, WholeRule, answer_whole};
+use line_rejects::Rejects;
+use run_engine::{LineRule, LinesEnd, Refusals as Refused, Rule, Watch as Observer, run_watched};
 use std::alloc::Global;
 use std::marker::Model;
+use std::mem;
 use std::sync::ledger::Ledger;
 
 /// The most bytes of an input, from 1 to 4,294,967,296.
@@ -157,7 +163,7 @@ impl TaskEnd {
 }
 
 /// Answers each line of an input within the limit by a rule, and tells an observer.
-fn run_rule<R: LineRule<L>, W: Observer<R, L> + Drop, S: Source, K: Sink, L: Ledger>(
+fn run_observed<R: LineRule<L>, W: Observer<R, L> + Drop, S: Source, K: Sink, L: Ledger>(
     alloc: Global,
     limit: &Option<Limit>,
     rule: &R,
@@ -184,24 +190,87 @@ fn run_rule<R: LineRule<L>, W: Observer<R, L> + Drop, S: Source, K: Sink, L: Led
     run_watched(alloc, bytes_within(limit), rule, watch, source, sink, steps)
 }
 
-/// Answers a whole input by a rule.
-fn run_whole_rule<R: WholeRule<L>, S: Source, K: Sink, L: Ledger>(
+/// Answers each line of an input within the limit by a rule, tells an observer, and puts a line of rejects for each
+/// refused line.
+pub(crate) fn run_rule<
+    C: Worded + Drop,
+    R: LineRule<L> + Rule<L, Cause = C> + ShowsLines,
+    W: Observer<R, L> + Drop,
+    S: Source,
+    K: Sink,
+    J: Sink + Drop,
+    L: Ledger,
+>(
     alloc: Global,
-    limit: u64,
+    limit: &Option<Limit>,
     rule: &R,
+    watch: W,
+    rejects: &mut Rejects<'_, J>,
     source: &mut S,
     sink: &mut K,
     steps: &mut Steps<L>,
-) -> Status
-    requires { limit ≤ max_limit }
-    ensures run { IsWholeRun (R.Answers rule.now) limit
+) -> LinesEnd<W>
+    ensures run { HasLineRun (R.Answers rule.now) (limit_of limit.now) (R.PER_BYTE + W.PER_BYTE) (R.EXTRA + W.EXTRA)
+        (outside (S.left source.old) (S.asked source.old) (S.failures source.old)
+        (K.written sink.old) (K.failures sink.old) steps.old)
+        (outside (S.left source.new) (S.asked source.new) (S.failures source.new)
+        (K.written sink.new) (K.failures sink.new) steps.new) result.status }
+    ensures saw { ¬ (result.status ≡ Status.NoMemory) → HasLinesRun rule.now (R.Answers rule.now)
+        (Returns (R.Notes rule.now) (R.refusal rule.now)) (W.Saw rule.now) (R.PER_BYTE + W.PER_BYTE)
+        (R.EXTRA + W.EXTRA) (limit_of limit.now)
+        (outside (S.left source.old) (S.asked source.old) (S.failures source.old)
+        (K.written sink.old) (K.failures sink.old) steps.old)
+        (outside (S.left source.new) (S.asked source.new) (S.failures source.new)
+        (K.written sink.new) (K.failures sink.new) steps.new) result.status watch result.watch }
+    ensures rejects { ¬ (result.status ≡ Status.NoMemory) → RejectsRun rule.now (R.Answers rule.now)
+        (R.Notes rule.now) (R.refusal rule.now) (R.shown rule.now) C.message (R.PER_BYTE + W.PER_BYTE)
+        (R.EXTRA + W.EXTRA) (limit_of limit.now) J.written J.failures
+        (outside (S.left source.old) (S.asked source.old) (S.failures source.old)
+        (K.written sink.old) (K.failures sink.old) steps.old)
+        (outside (S.left source.new) (S.asked source.new) (S.failures source.new)
+        (K.written sink.new) (K.failures sink.new) steps.new) result.status rejects.old rejects.new }
+    ensures memory { result.status ≡ Status.NoMemory → (source.new ≡ source.old) × (sink.new ≡ sink.old)
+        × (steps.new ≡ steps.old) }
+{
+    let both = Rejecting {
+        watch,
+        rejects: mem::replace(rejects, Rejects::none()),
+    };
+    let end = run_observed(alloc, limit, rule, both, source, sink, steps);
+    let LinesEnd { status, watch } = end;
+    let Rejecting {
+        watch,
+        rejects: told,
+    } = watch;
+    *rejects = told;
+    LinesEnd { status, watch }
+}
+
+/// Answers a whole input within the limit by a rule. A refusal is written only if `writes_refusal`.
+pub fn run_whole_rule<R: WholeRule<L>, S: Source, K: Sink, L: Ledger>(
+    alloc: Global,
+    limit: &Option<Limit>,
+    rule: &R,
+    writes_refusal: bool,
+    source: &mut S,
+    sink: &mut K,
+    steps: &mut Steps<L>,
+) -> TaskEnd
+    ensures run { IsWholeRun (IsWritten writes_refusal (R.Answers rule.now)) (whole_limit_of limit.now)
+        (outside (S.left source.old) (S.asked source.old) (S.failures source.old)
+        (K.written sink.old) (K.failures sink.old) steps.old)
+        (outside (S.left source.new) (S.asked source.new) (S.failures source.new)
+        (K.written sink.new) (K.failures sink.new) steps.new) result.status }
+    ensures reports { ReportsWhole (R.Answers rule.now)
         (outside (S.left source.old) (S.asked source.old) (S.failures source.old)
         (K.written sink.old) (K.failures sink.old) steps.old)
         (outside (S.left source.new) (S.asked source.new) (S.failures source.new)
         (K.written sink.new) (K.failures sink.new) steps.new) result }
-    ensures unwritten { EndsBeforeWriting result → sink.new ≡ sink.old }
+    ensures memory { result.status ≡ Status.NoMemory → sink.new ≡ sink.old }
 {
-    run_whole(alloc, limit, rule, source, sink, steps)
+    let bytes = whole_within(limit);
+    let end = answer_whole(alloc, bytes, rule, writes_refusal, source, sink, steps);
+    TaskEnd::of(end.status, Refusals::of_whole(&end.refusal))
 }
 
 /// Returns the most bytes of an input that is read piece by piece: 2^62 without a limit.
@@ -228,9 +297,10 @@ pub fn whole_within(limit: &Option<Limit>) -> u64
 }
 
 /// Answers each line of an input within the limit as `fixed_tool` does.
-fn run_words<S: Source, K: Sink, L: Ledger>(
+fn run_words<S: Source, K: Sink, J: Sink + Drop, L: Ledger>(
     alloc: Global,
     limit: &Option<Limit>,
+    rejects: &mut Rejects<'_, J>,
     source: &mut S,
     sink: &mut K,
     steps: &mut Steps<L>,
@@ -246,6 +316,12 @@ fn run_words<S: Source, K: Sink, L: Ledger>(
         (K.written sink.old) (K.failures sink.old) steps.old)
         (outside (S.left source.new) (S.asked source.new) (S.failures source.new)
         (K.written sink.new) (K.failures sink.new) steps.new) result }
+    ensures rejects { ¬ (result.status ≡ Status.NoMemory) → RejectsNamed RespellRule IsAnswer
+        (refusal_text fault_message) (refusal_message fault_message) 8 624 (limit_of limit.now) J.written J.failures
+        (outside (S.left source.old) (S.asked source.old) (S.failures source.old)
+        (K.written sink.old) (K.failures sink.old) steps.old)
+        (outside (S.left source.new) (S.asked source.new) (S.failures source.new)
+        (K.written sink.new) (K.failures sink.new) steps.new) result.status rejects.old rejects.new }
     ensures memory { result.status ≡ Status.NoMemory → sink.new ≡ sink.old }
 {
     let end = run_rule(
@@ -253,6 +329,7 @@ fn run_words<S: Source, K: Sink, L: Ledger>(
         limit,
         &RespellRule,
         Refused::new(),
+        rejects,
         source,
         sink,
         steps,
@@ -261,10 +338,11 @@ fn run_words<S: Source, K: Sink, L: Ledger>(
 }
 
 /// Answers each line of an input, as people write them, as `fixed_tool` does.
-fn run_laid_words<S: Source, K: Sink, L: Ledger>(
+fn run_laid_words<S: Source, K: Sink, J: Sink + Drop, L: Ledger>(
     alloc: Global,
     limit: &Option<Limit>,
     layout: &Layout,
+    rejects: &mut Rejects<'_, J>,
     source: &mut S,
     sink: &mut K,
     steps: &mut Steps<L>,
@@ -280,6 +358,12 @@ fn run_laid_words<S: Source, K: Sink, L: Ledger>(
         (K.written sink.old) (K.failures sink.old) steps.old)
         (outside (S.left source.new) (S.asked source.new) (S.failures source.new)
         (K.written sink.new) (K.failures sink.new) steps.new) result }
+    ensures rejects { ¬ (result.status ≡ Status.NoMemory) → RejectsLaid RespellRule layout.now IsAnswer
+        (refusal_text fault_message) (refusal_message fault_message) 8 624 (limit_of limit.now) J.written J.failures
+        (outside (S.left source.old) (S.asked source.old) (S.failures source.old)
+        (K.written sink.old) (K.failures sink.old) steps.old)
+        (outside (S.left source.new) (S.asked source.new) (S.failures source.new)
+        (K.written sink.new) (K.failures sink.new) steps.new) result.status rejects.old rejects.new }
     ensures memory { result.status ≡ Status.NoMemory → sink.new ≡ sink.old }
 {
     let laid = LaidOutLines {
@@ -291,6 +375,7 @@ fn run_laid_words<S: Source, K: Sink, L: Ledger>(
         limit,
         &laid,
         LaidRefusals::new(),
+        rejects,
         source,
         sink,
         steps,
@@ -299,9 +384,10 @@ fn run_laid_words<S: Source, K: Sink, L: Ledger>(
 }
 
 /// Answers each line of an input with the enclosure of its numeral.
-fn run_enclosures<S: Source, K: Sink, L: Ledger>(
+fn run_enclosures<S: Source, K: Sink, J: Sink + Drop, L: Ledger>(
     alloc: Global,
     limit: &Option<Limit>,
+    rejects: &mut Rejects<'_, J>,
     source: &mut S,
     sink: &mut K,
     steps: &mut Steps<L>,
@@ -317,6 +403,13 @@ fn run_enclosures<S: Source, K: Sink, L: Ledger>(
         (K.written sink.old) (K.failures sink.old) steps.old)
         (outside (S.left source.new) (S.asked source.new) (S.failures source.new)
         (K.written sink.new) (K.failures sink.new) steps.new) result }
+    ensures rejects { ¬ (result.status ≡ Status.NoMemory) → RejectsNamed EncloseRule enclose.IsAnswer
+        (refusal_text enclose.fault_message) (refusal_message enclose.fault_message) 16 1248 (limit_of limit.now)
+        J.written J.failures
+        (outside (S.left source.old) (S.asked source.old) (S.failures source.old)
+        (K.written sink.old) (K.failures sink.old) steps.old)
+        (outside (S.left source.new) (S.asked source.new) (S.failures source.new)
+        (K.written sink.new) (K.failures sink.new) steps.new) result.status rejects.old rejects.new }
     ensures memory { result.status ≡ Status.NoMemory → sink.new ≡ sink.old }
 {
     let end = run_rule(
@@ -324,6 +417,7 @@ fn run_enclosures<S: Source, K: Sink, L: Ledger>(
         limit,
         &EncloseRule,
         Refused::new(),
+        rejects,
         source,
         sink,
         steps,
@@ -332,10 +426,11 @@ fn run_enclosures<S: Source, K: Sink, L: Ledger>(
 }
 
 /// Answers each line of an input, as people write them, with the enclosure of its numeral.
-fn run_laid_enclosures<S: Source, K: Sink, L: Ledger>(
+fn run_laid_enclosures<S: Source, K: Sink, J: Sink + Drop, L: Ledger>(
     alloc: Global,
     limit: &Option<Limit>,
     layout: &Layout,
+    rejects: &mut Rejects<'_, J>,
     source: &mut S,
     sink: &mut K,
     steps: &mut Steps<L>,
@@ -352,6 +447,13 @@ fn run_laid_enclosures<S: Source, K: Sink, L: Ledger>(
         (K.written sink.old) (K.failures sink.old) steps.old)
         (outside (S.left source.new) (S.asked source.new) (S.failures source.new)
         (K.written sink.new) (K.failures sink.new) steps.new) result }
+    ensures rejects { ¬ (result.status ≡ Status.NoMemory) → RejectsLaid EncloseRule layout.now enclose.IsAnswer
+        (refusal_text enclose.fault_message) (refusal_message enclose.fault_message) 16 1248 (limit_of limit.now)
+        J.written J.failures
+        (outside (S.left source.old) (S.asked source.old) (S.failures source.old)
+        (K.written sink.old) (K.failures sink.old) steps.old)
+        (outside (S.left source.new) (S.asked source.new) (S.failures source.new)
+        (K.written sink.new) (K.failures sink.new) steps.new) result.status rejects.old rejects.new }
     ensures memory { result.status ≡ Status.NoMemory → sink.new ≡ sink.old }
 {
     let laid = LaidOutLines {
@@ -363,6 +465,7 @@ fn run_laid_enclosures<S: Source, K: Sink, L: Ledger>(
         limit,
         &laid,
         LaidRefusals::new(),
+        rejects,
         source,
         sink,
         steps,
@@ -394,7 +497,7 @@ fn run_questions<S: Source, K: Sink, L: Ledger>(
     ensures memory { result.status ≡ Status.NoMemory → sink.new ≡ sink.old }
 {
     let rule = BlockRule { form, question };
-    let end = run_rule(
+    let end = run_observed(
         alloc,
         limit,
         &rule,
@@ -434,7 +537,7 @@ fn run_laid_questions<S: Source, K: Sink, L: Ledger>(
         rule,
         layout: layout.same(),
     };
-    let end = run_rule(
+    let end = run_observed(
         alloc,
         limit,
         &laid,
@@ -448,10 +551,11 @@ fn run_laid_questions<S: Source, K: Sink, L: Ledger>(
 
 /// Answers each line of an input with the conversion of its numeral. It allocates one line buffer before the first
 /// read.
-pub fn run_convert<S: Source, K: Sink, L: Ledger>(
+pub fn run_convert<S: Source, K: Sink, J: Sink + Drop, L: Ledger>(
     alloc: Global,
     limit: &Option<Limit>,
     rule: &ConvertRule,
+    rejects: &mut Rejects<'_, J>,
     source: &mut S,
     sink: &mut K,
     steps: &mut Steps<L>,
@@ -467,18 +571,34 @@ pub fn run_convert<S: Source, K: Sink, L: Ledger>(
         (K.written sink.old) (K.failures sink.old) steps.old)
         (outside (S.left source.new) (S.asked source.new) (S.failures source.new)
         (K.written sink.new) (K.failures sink.new) steps.new) result }
+    ensures rejects { ¬ (result.status ≡ Status.NoMemory) → RejectsRun rule.now (IsLineReply rule.now) NoNote
+        message_text without_return message_of 8 624 (limit_of limit.now) J.written J.failures
+        (outside (S.left source.old) (S.asked source.old) (S.failures source.old)
+        (K.written sink.old) (K.failures sink.old) steps.old)
+        (outside (S.left source.new) (S.asked source.new) (S.failures source.new)
+        (K.written sink.new) (K.failures sink.new) steps.new) result.status rejects.old rejects.new }
     ensures memory { result.status ≡ Status.NoMemory → (source.new ≡ source.old) × (sink.new ≡ sink.old)
         × (steps.new ≡ steps.old) }
 {
-    let end = run_rule(alloc, limit, rule, RefusedLines::new(), source, sink, steps);
+    let end = run_rule(
+        alloc,
+        limit,
+        rule,
+        RefusedLines::new(),
+        rejects,
+        source,
+        sink,
+        steps,
+    );
     TaskEnd::of(end.status, reported(&end.watch.refusals))
 }
 
 /// Answers each line of an input, as people write them, with the conversion of its numeral.
-fn run_laid_out<S: Source, K: Sink, L: Ledger>(
+fn run_laid_out<S: Source, K: Sink, J: Sink + Drop, L: Ledger>(
     alloc: Global,
     limit: &Option<Limit>,
     laid: &LaidOutRule,
+    rejects: &mut Rejects<'_, J>,
     source: &mut S,
     sink: &mut K,
     steps: &mut Steps<L>,
@@ -494,17 +614,34 @@ fn run_laid_out<S: Source, K: Sink, L: Ledger>(
         (K.written sink.old) (K.failures sink.old) steps.old)
         (outside (S.left source.new) (S.asked source.new) (S.failures source.new)
         (K.written sink.new) (K.failures sink.new) steps.new) result }
+    ensures rejects { ¬ (result.status ≡ Status.NoMemory) → RejectsRun laid.now
+        (IsLaidOut laid.now.layout (IsReply laid.now.rule)) NoNote message_text without_return message_of 8 624
+        (limit_of limit.now) J.written J.failures
+        (outside (S.left source.old) (S.asked source.old) (S.failures source.old)
+        (K.written sink.old) (K.failures sink.old) steps.old)
+        (outside (S.left source.new) (S.asked source.new) (S.failures source.new)
+        (K.written sink.new) (K.failures sink.new) steps.new) result.status rejects.old rejects.new }
     ensures memory { result.status ≡ Status.NoMemory → sink.new ≡ sink.old }
 {
-    let end = run_rule(alloc, limit, laid, RefusedLines::new(), source, sink, steps);
+    let end = run_rule(
+        alloc,
+        limit,
+        laid,
+        RefusedLines::new(),
+        rejects,
+        source,
+        sink,
+        steps,
+    );
     TaskEnd::of(end.status, reported(&end.watch.refusals))
 }
 
 /// Answers each line of an input with the error of its numeral.
-fn run_errors<S: Source, K: Sink, L: Ledger>(
+fn run_errors<S: Source, K: Sink, J: Sink + Drop, L: Ledger>(
     alloc: Global,
     limit: &Option<Limit>,
     lines: &ErrorLines,
+    rejects: &mut Rejects<'_, J>,
     source: &mut S,
     sink: &mut K,
     steps: &mut Steps<L>,
@@ -520,6 +657,12 @@ fn run_errors<S: Source, K: Sink, L: Ledger>(
         (K.written sink.old) (K.failures sink.old) steps.old)
         (outside (S.left source.new) (S.asked source.new) (S.failures source.new)
         (K.written sink.new) (K.failures sink.new) steps.new) result }
+    ensures rejects { ¬ (result.status ≡ Status.NoMemory) → RejectsRun lines.now (IsErrorLine lines.now) NoNote
+        message_text without_return message_of 11 1565 (limit_of limit.now) J.written J.failures
+        (outside (S.left source.old) (S.asked source.old) (S.failures source.old)
+        (K.written sink.old) (K.failures sink.old) steps.old)
+        (outside (S.left source.new) (S.asked source.new) (S.failures source.new)
+        (K.written sink.new) (K.failures sink.new) steps.new) result.status rejects.old rejects.new }
     ensures memory { result.status ≡ Status.NoMemory → sink.new ≡ sink.old }
 {
     let end = run_rule(
@@ -527,6 +670,7 @@ fn run_errors<S: Source, K: Sink, L: Ledger>(
         limit,
         lines,
         RefusedLines::new(),
+        rejects,
         source,
         sink,
         steps,
@@ -536,10 +680,11 @@ fn run_errors<S: Source, K: Sink, L: Ledger>(
 
 /// Answers each line of an input, as people write them, with the conversion of its numeral, and reports the outcomes
 /// and the greatest error.
-fn run_reported<S: Source, K: Sink, L: Ledger>(
+fn run_reported<S: Source, K: Sink, J: Sink + Drop, L: Ledger>(
     alloc: Global,
     limit: &Option<Limit>,
     counted: &CountedRule,
+    rejects: &mut Rejects<'_, J>,
     source: &mut S,
     sink: &mut K,
     steps: &mut Steps<L>,
@@ -555,10 +700,18 @@ fn run_reported<S: Source, K: Sink, L: Ledger>(
         (K.written sink.old) (K.failures sink.old) steps.old)
         (outside (S.left source.new) (S.asked source.new) (S.failures source.new)
         (K.written sink.new) (K.failures sink.new) steps.new) result }
+    ensures rejects { ¬ (result.status ≡ Status.NoMemory) → RejectsRun counted.now
+        (IsLaidOut counted.now.laid.layout (IsReply counted.now.laid.rule)) (IsLineOutcome counted.now.laid)
+        message_text without_return message_of reported_per_byte reported_extra (limit_of limit.now) J.written
+        J.failures
+        (outside (S.left source.old) (S.asked source.old) (S.failures source.old)
+        (K.written sink.old) (K.failures sink.old) steps.old)
+        (outside (S.left source.new) (S.asked source.new) (S.failures source.new)
+        (K.written sink.new) (K.failures sink.new) steps.new) result.status rejects.old rejects.new }
     ensures memory { result.status ≡ Status.NoMemory → sink.new ≡ sink.old }
 {
     let report = LineReport::new(alloc, &counted.laid);
-    let end = run_rule(alloc, limit, counted, report, source, sink, steps);
+    let end = run_rule(alloc, limit, counted, report, rejects, source, sink, steps);
     let LinesEnd { status, watch } = end;
     TaskEnd {
         status,
@@ -584,18 +737,16 @@ fn run_constants<S: Source, K: Sink, L: Ledger>(
         (K.written sink.old) (K.failures sink.old) steps.old)
         (outside (S.left source.new) (S.asked source.new) (S.failures source.new)
         (K.written sink.new) (K.failures sink.new) steps.new) result.status }
+    ensures reports { ReportsWhole (IsPlainAnswer (IsRenamedAnswer (IsFormAnswer rule.now.form rule.now.guard.now)))
+        (outside (S.left source.old) (S.asked source.old) (S.failures source.old)
+        (K.written sink.old) (K.failures sink.old) steps.old)
+        (outside (S.left source.new) (S.asked source.new) (S.failures source.new)
+        (K.written sink.new) (K.failures sink.new) steps.new) result }
     ensures memory { result.status ≡ Status.NoMemory → sink.new ≡ sink.old }
 {
-    let watch = Watch::new();
     let renamed = RenamedRule { rule };
     let rule = PlainRule { rule: &renamed };
-    let watched = WatchedWhole {
-        rule: &rule,
-        watch: &watch,
-    };
-    let product = Product { rule: &watched };
-    let status = run_whole_rule(alloc, whole_within(limit), &product, source, sink, steps);
-    TaskEnd::of(status, watch.refusals())
+    run_whole_rule(alloc, limit, &rule, false, source, sink, steps)
 }
 
 /// Answers a whole input within the limit with the least format of its numerals.
@@ -612,15 +763,14 @@ fn run_least<S: Source, K: Sink, L: Ledger>(
         (K.written sink.old) (K.failures sink.old) steps.old)
         (outside (S.left source.new) (S.asked source.new) (S.failures source.new)
         (K.written sink.new) (K.failures sink.new) steps.new) result.status }
+    ensures reports { ReportsWhole (IsLeastWritten rule.now)
+        (outside (S.left source.old) (S.asked source.old) (S.failures source.old)
+        (K.written sink.old) (K.failures sink.old) steps.old)
+        (outside (S.left source.new) (S.asked source.new) (S.failures source.new)
+        (K.written sink.new) (K.failures sink.new) steps.new) result }
     ensures memory { result.status ≡ Status.NoMemory → sink.new ≡ sink.old }
 {
-    let watch = Watch::new();
-    let watched = WatchedWhole {
-        rule,
-        watch: &watch,
-    };
-    let status = run_whole_rule(alloc, whole_within(limit), &watched, source, sink, steps);
-    TaskEnd::of(status, watch.refusals())
+    run_whole_rule(alloc, limit, rule, true, source, sink, steps)
 }
 
 /// Answers a whole input within the limit, a list as people write it, with the least format of its numerals.
@@ -639,19 +789,18 @@ fn run_laid_least<S: Source, K: Sink, L: Ledger>(
         (K.written sink.old) (K.failures sink.old) steps.old)
         (outside (S.left source.new) (S.asked source.new) (S.failures source.new)
         (K.written sink.new) (K.failures sink.new) steps.new) result.status }
+    ensures reports { ReportsWhole (λ input. IsLeastWritten least.now (laid_out (Some layout.now) input))
+        (outside (S.left source.old) (S.asked source.old) (S.failures source.old)
+        (K.written sink.old) (K.failures sink.old) steps.old)
+        (outside (S.left source.new) (S.asked source.new) (S.failures source.new)
+        (K.written sink.new) (K.failures sink.new) steps.new) result }
     ensures memory { result.status ≡ Status.NoMemory → sink.new ≡ sink.old }
 {
-    let watch = Watch::new();
     let rule = LaidOutList {
         rule: least,
         layout,
     };
-    let watched = WatchedWhole {
-        rule: &rule,
-        watch: &watch,
-    };
-    let status = run_whole_rule(alloc, whole_within(limit), &watched, source, sink, steps);
-    TaskEnd::of(status, watch.refusals())
+    run_whole_rule(alloc, limit, &rule, true, source, sink, steps)
 }
 
 /// Answers lines of cells with the column of them in order, in an input within the limit.
@@ -667,24 +816,24 @@ fn run_cells<S: Source, K: Sink, L: Ledger>(
         (K.written sink.old) (K.failures sink.old) steps.old)
         (outside (S.left source.new) (S.asked source.new) (S.failures source.new)
         (K.written sink.new) (K.failures sink.new) steps.new) result.status }
+    ensures reports { ReportsWhole columns.IsWholeAnswer
+        (outside (S.left source.old) (S.asked source.old) (S.failures source.old)
+        (K.written sink.old) (K.failures sink.old) steps.old)
+        (outside (S.left source.new) (S.asked source.new) (S.failures source.new)
+        (K.written sink.new) (K.failures sink.new) steps.new) result }
     ensures memory { result.status ≡ Status.NoMemory → sink.new ≡ sink.old }
 {
-    let watch = Watch::new();
-    let watched = WatchedWhole {
-        rule: &ColumnsRule,
-        watch: &watch,
-    };
-    let status = run_whole_rule(alloc, whole_within(limit), &watched, source, sink, steps);
-    TaskEnd::of(status, watch.refusals())
+    run_whole_rule(alloc, limit, &ColumnsRule, true, source, sink, steps)
 }
 
 /// Does a task with an input within the limit. Returns how that ended and what it reports.
 ///
 /// Without a limit an input has at most 2^62 bytes, and one that is read whole at most 4,294,967,296.
-pub fn run_task<S: Source, K: Sink, L: Ledger>(
+pub fn run_task<S: Source, K: Sink, J: Sink + Drop, L: Ledger>(
     alloc: Global,
     limit: &Option<Limit>,
     task: &Task<'_>,
+    rejects: &mut Rejects<'_, J>,
     source: &mut S,
     sink: &mut K,
     steps: &mut Steps<L>,
@@ -701,18 +850,29 @@ pub fn run_task<S: Source, K: Sink, L: Ledger>(
         (K.written sink.old) (K.failures sink.old) steps.old)
         (outside (S.left source.new) (S.asked source.new) (S.failures source.new)
         (K.written sink.new) (K.failures sink.new) steps.new) result }
+
+    // Which lines of rejects it puts.
+    ensures rejects { ¬ (result.status ≡ Status.NoMemory) → TaskRejects J.written J.failures limit.now task.now
+        (outside (S.left source.old) (S.asked source.old) (S.failures source.old)
+        (K.written sink.old) (K.failures sink.old) steps.old)
+        (outside (S.left source.new) (S.asked source.new) (S.failures source.new)
+        (K.written sink.new) (K.failures sink.new) steps.new) result.status rejects.old rejects.new }
     ensures memory { result.status ≡ Status.NoMemory → sink.new ≡ sink.old }
 {
     match task {
-        Task::Lines => run_words(alloc, limit, source, sink, steps),
-        Task::LaidOutLines(layout) => run_laid_words(alloc, limit, layout, source, sink, steps),
-        Task::Convert(rule) => run_convert(alloc, limit, rule, source, sink, steps),
-        Task::LaidOut(laid) => run_laid_out(alloc, limit, laid, source, sink, steps),
-        Task::Reported(counted) => run_reported(alloc, limit, counted, source, sink, steps),
-        Task::Errors(lines) => run_errors(alloc, limit, lines, source, sink, steps),
-        Task::Enclose => run_enclosures(alloc, limit, source, sink, steps),
+        Task::Lines => run_words(alloc, limit, rejects, source, sink, steps),
+        Task::LaidOutLines(layout) => run_laid_words(
+            alloc, limit, layout, rejects, source, sink, steps,
+        ),
+        Task::Convert(rule) => run_convert(alloc, limit, rule, rejects, source, sink, steps),
+        Task::LaidOut(laid) => run_laid_out(alloc, limit, laid, rejects, source, sink, steps),
+        Task::Reported(counted) => run_reported(
+            alloc, limit, counted, rejects, source, sink, steps,
+        ),
+        Task::Errors(lines) => run_errors(alloc, limit, lines, rejects, source, sink, steps),
+        Task::Enclose => run_enclosures(alloc, limit, rejects, source, sink, steps),
         Task::LaidOutEnclose(layout) => {
-            run_laid_enclosures(alloc, limit, layout, source, sink, steps)
+            run_laid_enclosures(alloc, limit, layout, rejects, source, sink, steps)
         }
         Task::Ask(form, question) => {
             run_questions(alloc, limit, *form, *question, source, sink, steps)

@@ -1,18 +1,10 @@
-//! The refused lines that a report names, and a wrapper that answers a whole input like the rule inside it and
-//! remembers its refusal. Contracts say what is kept of a line. They cannot describe the contents of a `Cell`; tests
-//! do.
+//! The refused lines that a report names.
 
-ghost use Rattle.std.specs.Prelude.{◌≡◌, ◌==◌, ◌^◌, ◌<◌, List, None, ℕ, length, take};
-ghost use Rattle.fixed_command.specs.Products.{IsProduct};
-ghost use Rattle.fixed_command.specs.Watched.{first_refused, kept_bytes, line_at, refusal_text};
+ghost use Rattle.std.specs.Prelude.{◌≡◌, ◌==◌, None, length, take};
+ghost use Rattle.fixed_command.specs.Watched.{count_told, first_told, kept_bytes};
 
 use crate::blocks::first_bytes;
-use crate::named_line::{line_and_message, line_at};
-use fixed_steps::Steps;
-use line_engine::{NoMemory, WholeAnswer, WholeRule};
-use std::alloc::Global;
-use std::cell::Cell;
-use std::sync::ledger::Ledger;
+use line_engine::WholeRefusal;
 use text_buffer::TextBuffer;
 
 /// How many bytes of a line, and of the cause of its refusal, are kept.
@@ -83,98 +75,21 @@ impl Refusals {
         }
     }
 
-    /// Returns the refusal of an input with this answer, by the line and the cause that the answer names.
-    pub fn of_input(input: &[u8], answer: &[u8]) -> Refusals
-        ensures count { result.count ≡ 1 }
-        ensures first { (number : ℕ) (message : List ℕ) → number < 2 ^ 64 → answer.now ≡ refusal_text number message
-            → result.first ≡ first_refused None number (line_at number input.now) message }
+    /// Returns the refusal of a whole input, if it was refused.
+    pub fn of_whole(refusal: &Option<WholeRefusal>) -> Refusals
+        ensures count { result.count ≡ count_told refusal.now }
+        ensures first { result.first ≡ first_told refusal.now }
     {
-        let (number, message) = line_and_message(answer);
-        Refusals {
-            count: 1,
-            first: Some(RefusedLine::new(number, line_at(number, input), message)),
+        match refusal {
+            None => Refusals::new(),
+            Some(line) => Refusals {
+                count: 1,
+                first: Some(RefusedLine::new(
+                    line.number,
+                    line.line.as_bytes(),
+                    line.cause.as_slice(),
+                )),
+            },
         }
     }
-}
-
-/// The refusal of a whole input, kept by a rule that is lent.
-#[derive(Drop)]
-pub struct Watch {
-    refusals: Cell<Refusals>,
-}
-
-impl Watch {
-    /// Returns a watch that has seen no refusal.
-    pub fn new() -> Watch {
-        Watch {
-            refusals: Cell::new(Refusals::new()),
-        }
-    }
-
-    /// Takes the refused lines.
-    pub fn refusals(&self) -> Refusals {
-        self.refusals.replace(Refusals::new())
-    }
-
-    /// Notes that an input is refused with this answer.
-    fn refuse_input(&self, input: &[u8], answer: &[u8]) {
-        self.refusals.set(Refusals::of_input(input, answer));
-    }
-}
-
-/// A rule of whole inputs, with a watch over its refusals.
-#[derive(Clone, Copy)]
-pub struct WatchedWhole<'w, R> {
-    /// The rule.
-    pub rule: &'w R,
-    /// What is known about its refusal.
-    pub watch: &'w Watch,
-}
-
-impl<'w, R: WholeRule<L>, L: Ledger> WholeRule<L> for WatchedWhole<'w, R> {
-    ghost Answers = { λ watched. R.Answers watched.rule.now };
-
-    fn answer(
-        &self,
-        alloc: Global,
-        input: &[u8],
-        steps: &mut Steps<L>,
-    ) -> Result<WholeAnswer, NoMemory> {
-        let answer = self.rule.answer(alloc, input, steps)?;
-        if answer.is_fault() {
-            self.watch.refuse_input(input, answer.as_bytes());
-        }
-        Ok(answer)
-    }
-
-    ghost one_law = { λ watched. R.one_law watched.rule.now };
-}
-
-/// A rule whose answer is one product. Nothing is written for a refused input.
-#[derive(Clone, Copy)]
-pub struct Product<'w, R> {
-    /// The rule.
-    pub rule: &'w R,
-}
-
-impl<'w, R: WholeRule<L>, L: Ledger> WholeRule<L> for Product<'w, R> {
-    ghost use Rattle.fixed_command.specs.Lemmas.ProductLemmas.{product_one};
-
-    ghost Answers = { λ product. IsProduct (R.Answers product.rule.now) };
-
-    fn answer(
-        &self,
-        alloc: Global,
-        input: &[u8],
-        steps: &mut Steps<L>,
-    ) -> Result<WholeAnswer, NoMemory> {
-        let answer = self.rule.answer(alloc, input, steps)?;
-        if answer.is_fault() {
-            Ok(WholeAnswer::new(Vec::new(alloc), true))
-        } else {
-            Ok(answer)
-        }
-    }
-
-    ghost one_law = { λ product. product_one (R.Answers product.rule.now) (R.one_law product.rule.now) };
 }

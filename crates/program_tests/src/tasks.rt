@@ -8,6 +8,7 @@ use fixed_constants::FormRule;
 use fixed_numeral::Radix;
 use fixed_steps::Steps;
 use line_engine::{MemoryProgram, MemoryRun, MemorySink, MemorySource, NEVER, Status};
+use line_rejects::Rejects;
 use std::alloc::{AllocError, Global};
 use std::process::Abort;
 use std::sync::ledger::Ledger;
@@ -29,7 +30,8 @@ impl<'a> MemoryProgram for Case<'a> {
         sink: &mut MemorySink,
         steps: &mut Steps<L>,
     ) -> Status {
-        run_task(alloc, &None, &self.task, source, sink, steps).status
+        let mut rejects = Rejects::<MemorySink>::none();
+        run_task(alloc, &None, &self.task, &mut rejects, source, sink, steps).status
     }
 }
 

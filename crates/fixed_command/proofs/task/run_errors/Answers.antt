@@ -8,3 +8,6 @@ returns-clause-reports g c = λ some. record {
   run = rw c.of.ensures.status (c.run_rule-end.ensures.saw (rw c.of.ensures.status at some));
   tells = record { count = rw c.of.ensures.refusals c.reported.ensures.count; first = rw c.of.ensures.refusals c.reported.ensures.first };
 }
+
+pub returns-clause-rejects : goal.returns-clause-rejects
+returns-clause-rejects g c = λ some. rw c.of.ensures.status (c.run_rule-end.ensures.rejects (rw c.of.ensures.status at some))

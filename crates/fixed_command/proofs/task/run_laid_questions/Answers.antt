@@ -4,8 +4,8 @@ pub returns-clause-reports : goal.returns-clause-reports
 returns-clause-reports g c = λ some. record {
   rule = c.args.rule;
   first = c.new.result;
-  last = c.run_rule-end.result.watch;
+  last = c.run_observed-end.result.watch;
   fresh = record { count = c.new.ensures.count; none = c.new.ensures.first };
-  run = rw c.of.ensures.status (rw c.same.ensures at (c.run_rule-end.ensures.saw (rw c.of.ensures.status at some)));
+  run = rw c.of.ensures.status (rw c.same.ensures at (c.run_observed-end.ensures.saw (rw c.of.ensures.status at some)));
   tells = record { count = rw c.of.ensures.refusals c.reported.ensures.count; first = rw c.of.ensures.refusals c.reported.ensures.first };
 }

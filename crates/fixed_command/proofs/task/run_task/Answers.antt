@@ -71,3 +71,39 @@ returns-in-Ask-clause-reports g c = rw c.in-Ask.is c.run_questions.ensures.repor
 
 pub returns-in-LaidOutAsk-clause-reports : goal.returns-in-LaidOutAsk-clause-reports
 returns-in-LaidOutAsk-clause-reports g c = rw c.in-LaidOutAsk.is c.run_laid_questions.ensures.reports
+
+pub returns-in-Lines-clause-rejects : goal.returns-in-Lines-clause-rejects
+returns-in-Lines-clause-rejects g c = rw c.in-Lines.is c.run_words.ensures.rejects
+
+pub returns-in-Convert-clause-rejects : goal.returns-in-Convert-clause-rejects
+returns-in-Convert-clause-rejects g c = rw c.in-Convert.is c.run_convert.ensures.rejects
+
+pub returns-in-LaidOut-clause-rejects : goal.returns-in-LaidOut-clause-rejects
+returns-in-LaidOut-clause-rejects g c = rw c.in-LaidOut.is c.run_laid_out.ensures.rejects
+
+pub returns-in-Reported-clause-rejects : goal.returns-in-Reported-clause-rejects
+returns-in-Reported-clause-rejects g c = rw c.in-Reported.is c.run_reported.ensures.rejects
+
+pub returns-in-Errors-clause-rejects : goal.returns-in-Errors-clause-rejects
+returns-in-Errors-clause-rejects g c = rw c.in-Errors.is c.run_errors.ensures.rejects
+
+pub returns-in-Enclose-clause-rejects : goal.returns-in-Enclose-clause-rejects
+returns-in-Enclose-clause-rejects g c = rw c.in-Enclose.is c.run_enclosures.ensures.rejects
+
+pub returns-in-LaidOutLines-clause-rejects : goal.returns-in-LaidOutLines-clause-rejects
+returns-in-LaidOutLines-clause-rejects g c = rw c.in-LaidOutLines.is c.run_laid_words.ensures.rejects
+
+pub returns-in-LaidOutEnclose-clause-rejects : goal.returns-in-LaidOutEnclose-clause-rejects
+returns-in-LaidOutEnclose-clause-rejects g c = rw c.in-LaidOutEnclose.is c.run_laid_enclosures.ensures.rejects
+
+pub returns-in-Least-clause-reports : goal.returns-in-Least-clause-reports
+returns-in-Least-clause-reports g c = rw c.in-Least.is (λ some. c.run_least.ensures.reports)
+
+pub returns-in-LaidOutLeast-clause-reports : goal.returns-in-LaidOutLeast-clause-reports
+returns-in-LaidOutLeast-clause-reports g c = rw c.in-LaidOutLeast.is (λ some. c.run_laid_least.ensures.reports)
+
+pub returns-in-Constants-clause-reports : goal.returns-in-Constants-clause-reports
+returns-in-Constants-clause-reports g c = rw c.in-Constants.is (λ some. c.run_constants.ensures.reports)
+
+pub returns-in-Columns-clause-reports : goal.returns-in-Columns-clause-reports
+returns-in-Columns-clause-reports g c = rw c.in-Columns.is (λ some. c.run_cells.ensures.reports)

@@ -9,4 +9,4 @@ added_if b k then number numeral told is same added = subst (λ x. ErrorAddedIf 
 pub returns-then-has_error-clause-errors : goal.returns-then-has_error-clause-errors
 returns-then-has_error-clause-errors g c =
     let e = c.add.ensures in
-    added_if _ _ _ _ _ _ (sym (rw c.settings.ensures at c.has_error.ensures) ∙ c.if-has_error.true) c.numeral_of.ensures.value (record { radix = e.radix; format = e.format; mode = e.mode; one_more = e.one_more; lost = e.lost })
+    added_if _ _ _ _ _ _ (sym (rw c.settings.ensures at c.has_error.ensures) ∙ c.if-has_error.true) c.numeral_of.ensures.value (record { radix = e.radix; format = e.format; mode = e.mode; one_more = e.one_more; sums = e.sums; lost = e.lost })
