@@ -1,14 +1,15 @@
 -- The run of a job over an input, from what its reader holds to what its writer contains.
-use Rattle.std.specs.Prelude.{◌≡◌, ℕ, List, Option, option_map}
+use Rattle.std.specs.Prelude.{◌≡◌, Bool, false, true, ℕ, List, Option, option_map}
 use Rattle.command_line.specs.Device.{strip_bom}
 use Rattle.fixed_command.specs.Limits.{limit_of}
 use Rattle.fixed_command.specs.Runs.{TaskRuns}
 use Rattle.fixed_command.specs.declared.task.Task.{Task}
 use Rattle.fixed_words.specs.Run.{HasWordsRun}
 use Rattle.fixed_words.specs.declared.rule.WordRule.{WordRule}
+use Rattle.fixed_words.specs.declared.splitter.WordRefusal.{WordRefusal}
 use Rattle.line_engine.specs.Program.{Outside}
 use Rattle.line_engine.specs.declared.status.Status.{Status}
-use Rattle.line_engine.specs.declared.status.Status.TheVariants.{NoMemory}
+use Rattle.line_engine.specs.declared.status.Status.TheVariants.{NoMemory, WriteFault}
 
 -- the run is over what a reader holds, without a byte order mark at its beginning, and writes to a writer that contains
 -- `old` before it and `new` after it; no device had failed before it
@@ -26,12 +27,34 @@ pub record RunsBetween (Runs : Outside → Outside → Type 0) (held old new : O
 abbrev pub TaskRunsBetween : Option ℕ → Task → Status → Option (List ℕ) → Option (List ℕ) → Option (List ℕ) → Type 0
 TaskRunsBetween limit task status = RunsBetween (λ before after. TaskRuns limit task before after status)
 
+-- the status of an input, by whether a write of its rejects failed and by the status of its run
+abbrev pub end_of : Bool → Status → Status
+end_of false status = status
+end_of true status = WriteFault
+
+-- a run with its rejects, by whether a write of these failed
+abbrev pub EndsBetween : (Status → Option (List ℕ) → Option (List ℕ) → Option (List ℕ) → Type 0) → Bool → Status
+    → Option (List ℕ) → Option (List ℕ) → Option (List ℕ) → Type 0
+EndsBetween Runs failed end held old new = (status : Status) × (end ≡ end_of failed status)
+    × Runs status held old new
+
+-- a task over an input within a limit, by whether a write of its rejects failed
+abbrev pub TaskEndsBetween : Bool → Option ℕ → Task → Status → Option (List ℕ) → Option (List ℕ) → Option (List ℕ)
+    → Type 0
+TaskEndsBetween failed limit task = EndsBetween (TaskRunsBetween limit task) failed
+
 -- a run over the words of an input; without memory nothing was read or written
 pub record RunsWords (limit : ℕ) (rule : WordRule) (status : Status) (before after : Outside) : Type 0 where
-  pub run : ¬ (status ≡ NoMemory) → HasWordsRun limit rule before after status
+  pub run : ¬ (status ≡ NoMemory) → (refused : ℕ) × (first : Option WordRefusal)
+      × HasWordsRun limit rule before after status refused first
   pub memory : status ≡ NoMemory → after ≡ before
 
 -- the words of an input within a limit
 abbrev pub WordsRunBetween : Option ℕ → WordRule → Status → Option (List ℕ) → Option (List ℕ) → Option (List ℕ)
     → Type 0
 WordsRunBetween limit rule status = RunsBetween (RunsWords (limit_of limit) rule status)
+
+-- the words of an input within a limit, by whether a write of their rejects failed
+abbrev pub WordsEndBetween : Bool → Option ℕ → WordRule → Status → Option (List ℕ) → Option (List ℕ) → Option (List ℕ)
+    → Type 0
+WordsEndBetween failed limit rule = EndsBetween (WordsRunBetween limit rule) failed

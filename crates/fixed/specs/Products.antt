@@ -36,9 +36,12 @@ with_file limit text file = ended text ++ take (room limit (ended text)) (strip_
 abbrev pub count_lines : List ℕ → ℕ
 count_lines text = min (length (lines text)) (2 ^ 64 - 1)
 
--- the product of an input, or nothing for one that is refused
+-- the product of an input, or its refusal
+abbrev pub IsAnswerOf : Product → List ℕ → AnswerText → Type 0
+IsAnswerOf (product.Constants rule) = IsPlainAnswer (IsRenamedAnswer (IsFormAnswer rule.form rule.guard.now))
+IsAnswerOf (product.List list) = IsSwappedAnswer list.decimal (IsArrayAnswer list.rule)
+IsAnswerOf (product.Literals list) = IsPlainAnswer (IsRenamedAnswer (IsLiteralArrayAnswer list))
+
+-- the same, where nothing is written for a refused input
 abbrev pub IsProductOf : Product → List ℕ → AnswerText → Type 0
-IsProductOf (product.Constants rule) = IsProduct (IsPlainAnswer (IsRenamedAnswer
-    (IsFormAnswer rule.form rule.guard.now)))
-IsProductOf (product.List list) = IsProduct (IsSwappedAnswer list.decimal (IsArrayAnswer list.rule))
-IsProductOf (product.Literals list) = IsProduct (IsPlainAnswer (IsRenamedAnswer (IsLiteralArrayAnswer list)))
+IsProductOf product = IsProduct (IsAnswerOf product)

@@ -7,6 +7,7 @@ pub mod amounts;
 pub mod bits;
 pub mod column;
 pub mod column_report;
+pub mod column_run;
 pub mod column_words;
 pub mod constants;
 pub mod convert;

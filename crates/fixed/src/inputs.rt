@@ -1,38 +1,38 @@
 //! Runs a job over each input, one after another.
 
-ghost use Rattle.std.specs.Prelude.{◌≡◌, ◌≤◌, length};
+ghost use Rattle.std.specs.Prelude.{◌≡◌, ◌≤◌, ◌&&◌, length};
 ghost use Rattle.command_line.specs.Device.{written_to};
 ghost use Rattle.fixed.specs.Ends.{is_last};
-ghost use Rattle.fixed.specs.Inputs.{TaskRunsBetween, WordsRunBetween};
+ghost use Rattle.fixed.specs.Inputs.{TaskEndsBetween, WordsEndBetween};
 
-use crate::commands::column_report::{self, Known};
+use crate::commands::column_run::{run_amounts_on, run_column_on};
 use crate::commands::{amounts, convert, fit, floats, json, pack, repack, unpack};
 use crate::explained::{
     NO_OFFERS, TRIM_OFFERS, enclosure_rule, line_rule, list_rule, push_explanation,
     push_question_explanation,
 };
 use crate::output::open_output;
+use crate::rejects::{Guarded, RejectFile, open_rejects, refuse_rejects};
 use crate::reports::{ReportForm, report_lines};
 use crate::settings::limit_asked;
-use column_engine::ColumnWatch;
-use command_line::device::{Failure, Limited, Output, Unmarked, Writer};
+use command_line::device::{Failure, Output, Unmarked, Writer};
 use command_line::given::{Asked, Given};
 use command_line::report::{Report, push_words, report_end};
 use fixed_amounts::AmountSettings;
 use fixed_command::{
     AmountLines, ColumnConversion, ConvertRule, CountedRule, FieldReport, Limit, MAX_TALLY, Place,
-    Refusals, RefusedLine, Spelling, Tally, Task, bytes_within, convert_column, error_report,
-    greater_end, run_task, tally_text, without_return,
+    Refusals, RefusedLine, Spelling, Tally, Task, error_report, greater_end, run_task, tally_text,
+    without_return,
 };
 use fixed_io::{StdSink, StdSource};
 use fixed_numeral::{Radix, scan};
 use fixed_pack::{FloatWords, Repack};
-use fixed_report::{ErrorReport, Lost, MAX_GREATEST};
+use fixed_report::{ErrorReport, Lost, MAX_GREATEST, MAX_MEAN};
 use fixed_steps::Steps;
 use fixed_words::{WordRefusal, WordRule, WordsEnd, convert_words};
 use line_engine::Status;
 use std::fs::File;
-use std::io::{self, Error, ErrorKind, Read, Write};
+use std::io::{self, Error, ErrorKind, Read, Stdin, Write};
 use std::mem;
 use std::sync::ledger::Ledger;
 
@@ -216,7 +216,7 @@ pub fn report_tally(rt: &HostRuntime, file: Option<&str>, tally: &Tally, place: 
 }
 
 /// Reports on standard error which numeral of an input has the greatest error, if any has an error: its place after
-/// `name`, which names such places, the error and the same in ulps; or why that is not known.
+/// `name`, which names such places, the error and the same in ulps; or why that is not known. Then the means of errors.
 pub fn report_greatest<L: Ledger>(
     rt: &HostRuntime,
     file: Option<&str>,
@@ -236,6 +236,21 @@ pub fn report_greatest<L: Ledger>(
         },
     }
     report.send(rt);
+    report_means(rt, file, errors);
+}
+
+/// Reports on standard error the mean of the errors of an input's numerals and the root of the mean of their squares,
+/// in ulps, if they are known.
+fn report_means(rt: &HostRuntime, file: Option<&str>, errors: &ErrorReport) {
+    if let Some(texts) = errors.mean_texts() {
+        let mut report = Report::of(file);
+        report.text("mean error in ulps: ");
+        report.bytes(texts.mean.as_bytes(), MAX_MEAN);
+        report.text(", RMS: ");
+        report.bytes(texts.root.as_bytes(), MAX_MEAN);
+        report.text(" (rounded to six digits)");
+        report.send(rt);
+    }
 }
 
 /// Runs a task over one input, and reports on standard error why it did not end well. Like the function of each kind of
@@ -249,82 +264,49 @@ fn run_task_on<R: Read + Drop, S: Write + Drop, F: Write + Drop, L: Ledger>(
     file: Option<&str>,
     reader: R,
     output: &mut Output<S, F>,
+    rejects: &mut RejectFile<'_, '_>,
     steps: &mut Steps<L>,
 ) -> Status
-    ensures { TaskRunsBetween limit.now task.now result (R.remaining reader)
-        (written_to S.contents F.contents output.old) (written_to S.contents F.contents output.new) }
+    ensures { TaskEndsBetween (rejects.old.has_file && rejects.new.rejects.has_failed) limit.now task.now result
+        (R.remaining reader) (written_to S.contents F.contents output.old)
+        (written_to S.contents F.contents output.new) }
 {
     let failure = Failure::new(None);
     let mut source = StdSource::new(Unmarked::new(reader));
     // The sink owns the writer meanwhile, so that contracts know what it contains.
     let writer = mem::replace(output, Output::Nowhere);
     let mut sink = StdSink::new(Writer {
-        writer,
+        writer: Guarded {
+            writer,
+            failure: rejects.failure,
+        },
         failure: &failure,
     });
-    let end = run_task(rt.alloc(), limit, task, &mut source, &mut sink, steps);
+    let told = &mut rejects.rejects;
+    let end = run_task(rt.alloc(), limit, task, told, &mut source, &mut sink, steps);
+    let status = rejects.end(end.status);
     // After a failed write, not all counted answers were written.
-    if !is_last(end.status) {
+    if !is_last(status) {
         report_refused(rt, task, file, &end.refusals, steps);
         if let Some(errors) = &end.errors {
             report_lines(rt, form, file, &end.tally, errors, steps);
         }
     }
-    report_end(rt, file, end.status, sink.lines(), &failure);
-    *output = sink.into_writer().writer;
-    end.status
+    report_end(rt, file, status, sink.lines(), rejects.failure_or(&failure));
+    *output = sink.into_writer().writer.writer;
+    status
 }
 
-/// Returns a report if it is requested.
-fn asked_report<'r>(
-    report: &'r FieldReport<'r>,
-    form: Option<ReportForm>,
-) -> Option<&'r FieldReport<'r>> {
-    if form.is_some() { Some(report) } else { None }
-}
-
-/// Converts columns of one input, and reports on standard error why it did not end well.
-#[inline(never)]
-fn run_column_on<R: Read + Drop, L: Ledger>(
+/// Returns a report of no fields, if one is requested.
+pub fn asked_report(
     rt: &HostRuntime,
-    conversion: &ColumnConversion<'_, ConvertRule>,
-    limit: &Option<Limit>,
+    rule: &ConvertRule,
     form: Option<ReportForm>,
-    file: Option<&str>,
-    reader: R,
-    output: &mut Output,
-    steps: &mut Steps<L>,
-) -> Status {
-    let watch = ColumnWatch::new(conversion.skipped.saturating_add(1));
-    let fields = FieldReport::new(&watch, error_report(rt.alloc(), conversion.rule.settings()));
-    let report = asked_report(&fields, form);
-    let failure = Failure::new(None);
-    let mut limited = Limited::new(reader, bytes_within(limit));
-    let mut source = StdSource::new(&mut limited);
-    let writer = &mut *output;
-    let mut sink = StdSink::new(Writer {
-        writer,
-        failure: &failure,
-    });
-    let end = convert_column(
-        rt.alloc(),
-        conversion,
-        &watch,
-        report,
-        &mut source,
-        &mut sink,
-        steps,
-    );
-    let known = Known {
-        conversion,
-        watch: &watch,
-        report,
-        form: form.unwrap_or(ReportForm::Text),
-        end: &end,
-        is_exceeded: limited.is_exceeded(),
-    };
-    column_report::report_end(rt, file, &known, sink.lines(), &failure, steps);
-    known.status()
+) -> Option<FieldReport> {
+    match form {
+        Some(_) => Some(FieldReport::new(error_report(rt.alloc(), rule.settings()))),
+        None => None,
+    }
 }
 
 /// Returns a report of how many words of an input were refused, with the text and the cause of the first.
@@ -377,16 +359,21 @@ fn run_words_on<R: Read + Drop, S: Write + Drop, F: Write + Drop, L: Ledger>(
     file: Option<&str>,
     reader: R,
     output: &mut Output<S, F>,
+    rejects: &mut RejectFile<'_, '_>,
     steps: &mut Steps<L>,
 ) -> Status
-    ensures { WordsRunBetween limit.now rule.now result (R.remaining reader)
-        (written_to S.contents F.contents output.old) (written_to S.contents F.contents output.new) }
+    ensures { WordsEndBetween (rejects.old.has_file && rejects.new.rejects.has_failed) limit.now rule.now result
+        (R.remaining reader) (written_to S.contents F.contents output.old)
+        (written_to S.contents F.contents output.new) }
 {
     let failure = Failure::new(None);
     let mut source = StdSource::new(Unmarked::new(reader));
     let writer = mem::replace(output, Output::Nowhere);
     let mut sink = StdSink::new(Writer {
-        writer,
+        writer: Guarded {
+            writer,
+            failure: rejects.failure,
+        },
         failure: &failure,
     });
     let end = convert_words(
@@ -394,16 +381,18 @@ fn run_words_on<R: Read + Drop, S: Write + Drop, F: Write + Drop, L: Ledger>(
         limit,
         rule,
         form.is_some(),
+        &mut rejects.rejects,
         &mut source,
         &mut sink,
         steps,
     );
-    if !is_last(end.status) {
+    let status = rejects.end(end.status);
+    if !is_last(status) {
         report_words(rt, rule, form, file, &end, steps);
     }
-    report_end(rt, file, end.status, sink.lines(), &failure);
-    *output = sink.into_writer().writer;
-    end.status
+    report_end(rt, file, status, sink.lines(), rejects.failure_or(&failure));
+    *output = sink.into_writer().writer.writer;
+    status
 }
 
 /// Runs a job over one input.
@@ -414,27 +403,30 @@ fn run_reader<R: Read + Drop, L: Ledger>(
     file: Option<&str>,
     reader: R,
     output: &mut Output,
+    rejects: &mut RejectFile<'_, '_>,
     steps: &mut Steps<L>,
 ) -> Status {
     match job {
         Job::Task(task) => {
             let form = ReportForm::Text;
-            run_task_on(rt, task, limit, form, file, reader, output, steps)
+            run_task_on(rt, task, limit, form, file, reader, output, rejects, steps)
         }
         Job::Reported { task, form } => {
-            run_task_on(rt, task, limit, *form, file, reader, output, steps)
+            run_task_on(rt, task, limit, *form, file, reader, output, rejects, steps)
         }
         Job::Words { rule, report } => {
-            run_words_on(rt, rule, limit, *report, file, reader, output, steps)
+            run_words_on(rt, rule, limit, *report, file, reader, output, rejects, steps)
         }
-        Job::Amounts(lines) => amounts::run_on(rt, lines, limit, file, reader, output, steps),
+        Job::Amounts(lines) => {
+            amounts::run_on(rt, lines, limit, file, reader, output, rejects, steps)
+        }
         Job::Column { conversion, report } => run_column_on(
-            rt, conversion, limit, *report, file, reader, output, steps,
+            rt, conversion, limit, *report, file, reader, output, rejects, steps,
         ),
         Job::AmountColumns(conversion) => {
-            amounts::run_columns_on(rt, conversion, limit, file, reader, output, steps)
+            run_amounts_on(rt, conversion, limit, file, reader, output, rejects, steps)
         }
-        Job::Json(job) => json::run_on(rt, job, limit, file, reader, output, steps),
+        Job::Json(job) => json::run_on(rt, job, limit, file, reader, output, rejects, steps),
         Job::Fit(task) => {
             let mut source = StdSource::new(Unmarked::new(reader));
             fit::run_on(rt, task, limit, file, &mut source, output, steps)
@@ -490,21 +482,33 @@ fn open_file(rt: &HostRuntime, file: &str) -> io::Result<File> {
     Ok(reader)
 }
 
+/// Opens standard input. A folder is refused, as a read of no bytes tells.
+fn open_standard(rt: &HostRuntime) -> io::Result<Stdin> {
+    let mut reader = rt.stdin();
+    reader.read(&mut [])?;
+    Ok(reader)
+}
+
 /// Runs a job over a file, or over standard input if its name is `-`.
-fn run_file<L: Ledger>(
+fn run_file<'a, L: Ledger>(
     rt: &HostRuntime,
     job: &Job<'_>,
     limit: &Option<Limit>,
     format: &str,
-    file: &str,
+    file: &'a str,
     output: &mut Output,
+    rejects: &mut RejectFile<'_, 'a>,
     steps: &mut Steps<L>,
 ) -> Status {
+    rejects.begin(file);
     if file == "-" {
-        return run_reader(rt, job, limit, None, rt.stdin(), output, steps);
+        return match open_standard(rt) {
+            Ok(reader) => run_reader(rt, job, limit, None, reader, output, rejects, steps),
+            Err(error) => refuse_file(rt, file, &error),
+        };
     }
     match open_file(rt, file) {
-        Ok(reader) => run_reader(rt, job, limit, Some(file), reader, output, steps),
+        Ok(reader) => run_reader(rt, job, limit, Some(file), reader, output, rejects, steps),
         Err(error) => refuse_input(rt, format, file, &error, steps),
     }
 }
@@ -519,21 +523,22 @@ pub fn is_last(status: Status) -> bool
 /// Runs a job over each file in order, each as its own input within the limit, or over standard input if there are
 /// none. Returns the greatest code, and stops at once if a write failed or memory is missing. `format` is the operand
 /// that names the format of the numerals in the files, and is empty if there is none.
-pub fn run_inputs_to<L: Ledger>(
+pub fn run_inputs_to<'a, L: Ledger>(
     rt: &HostRuntime,
     job: &Job<'_>,
     limit: &Option<Limit>,
     format: &str,
-    files: &[&str],
+    files: &[&'a str],
     output: &mut Output,
+    rejects: &mut RejectFile<'_, 'a>,
     steps: &mut Steps<L>,
 ) -> Status {
     if files.is_empty() {
-        return run_file(rt, job, limit, format, "-", output, steps);
+        return run_file(rt, job, limit, format, "-", output, rejects, steps);
     }
     let mut end = Status::Done;
     for file in files {
-        let status = run_file(rt, job, limit, format, file, output, steps);
+        let status = run_file(rt, job, limit, format, file, output, rejects, steps);
         end = greater_end(end, status);
         if is_last(status) {
             return end;
@@ -554,8 +559,17 @@ pub fn run_inputs_within<'a, L: Ledger>(
     steps: &mut Steps<L>,
 ) -> Asked<'a, Status> {
     let files = given.from(place);
-    match open_output(rt, given, files)? {
-        Ok(mut output) => Ok(run_inputs_to(rt, job, limit, format, files, &mut output, steps)),
+    refuse_rejects(rt, given, files)?;
+    let mut output = match open_output(rt, given, files)? {
+        Ok(output) => output,
+        Err(status) => return Ok(status),
+    };
+    let failure = Failure::new(None);
+    match open_rejects(rt, given, files, &failure)? {
+        Ok(mut rejects) => {
+            let told = &mut rejects;
+            Ok(run_inputs_to(rt, job, limit, format, files, &mut output, told, steps))
+        }
         Err(status) => Ok(status),
     }
 }

@@ -235,6 +235,14 @@ pub const OUTPUT: Row = Row {
     help: "Answers go to FILE, which is made anew",
 };
 
+pub const REJECTS: Row = Row {
+    name: "rejects",
+    letter: None,
+    value: "FILE",
+    choices: &[],
+    help: "A line for each refused numeral goes to FILE",
+};
+
 pub const LIMIT: Row = Row {
     name: "limit",
     letter: None,

@@ -14,12 +14,12 @@ use std::os::unix::fs::{FileTypeExt, MetadataExt};
 use std::{fs, io};
 
 /// Returns the path of an input: standard input is `-`.
-fn path_of(input: &str) -> &str {
+pub fn path_of(input: &str) -> &str {
     if input == "-" { "/dev/stdin" } else { input }
 }
 
 /// Whether two paths are the same existing file, other than a character device, which holds nothing to be lost.
-fn is_one_file(rt: &HostRuntime, one: &str, other: &str) -> bool {
+pub fn is_one_file(rt: &HostRuntime, one: &str, other: &str) -> bool {
     match (fs::metadata(rt, one), fs::metadata(rt, other)) {
         (Ok(one), Ok(other)) => {
             let is_device = one.file_type().is_char_device();
@@ -51,7 +51,11 @@ fn created(rt: &HostRuntime, path: Option<&str>) -> io::Result<Output> {
 /// Opens the output that the option names, for answers to operands. A file is created anew; if that fails, standard
 /// error says why, and the status is that of a failed write.
 pub fn open_answers(rt: &HostRuntime, given: &Given<'_, '_>) -> Result<Output, Status> {
-    let path = given.value(&OUTPUT);
+    open_path(rt, given.value(&OUTPUT))
+}
+
+/// Opens the output with this path as `open_answers` does.
+pub fn open_path(rt: &HostRuntime, path: Option<&str>) -> Result<Output, Status> {
     match created(rt, path) {
         Ok(output) => Ok(output),
         Err(error) => {
@@ -138,6 +142,11 @@ pub fn inputs_of<'f, 'a>(files: &'f [&'a str]) -> &'f [&'a str] {
     if files.is_empty() { &["-"] } else { files }
 }
 
+/// Whether one of these inputs can be read.
+pub fn is_any_readable(rt: &HostRuntime, inputs: &[&str]) -> bool {
+    inputs.iter().any(|input| is_readable(rt, input))
+}
+
 /// Opens the output that the option names, for answers to files, or to standard input if there are none. It is opened
 /// before they are read, and stays unchanged if none of them can be read.
 ///
@@ -151,7 +160,7 @@ pub fn open_output<'a>(
 ) -> Asked<'a, Result<Output, Status>> {
     let inputs = inputs_of(files);
     refuse_input(rt, given, inputs)?;
-    if given.value(&OUTPUT).is_some() && !inputs.iter().any(|input| is_readable(rt, input)) {
+    if given.value(&OUTPUT).is_some() && !is_any_readable(rt, inputs) {
         return Ok(Ok(Output::Nowhere));
     }
     Ok(open_answers(rt, given))

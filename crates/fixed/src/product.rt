@@ -3,9 +3,9 @@
 //! So a name in two of them is a duplicate, and standard output never has a part of a header.
 
 ghost use Rattle.std.specs.Prelude.{◌≡◌, ◌+◌, ◌-◌, ◌^◌, ◌++◌, ◌∷◌, [], IfOk, IfSome, OnOk, drop, length, min};
-ghost use Rattle.fixed.specs.Products.{IsProductOf, count_lines, ended, ends_line, with_file};
+ghost use Rattle.fixed.specs.Products.{IsAnswerOf, IsProductOf, count_lines, ended, ends_line, with_file};
 ghost use Rattle.fixed_command.specs.Limits.{whole_limit_of};
-ghost use Rattle.fixed_command.specs.Products.{IsProduct};
+ghost use Rattle.fixed_command.specs.Reports.{ReportsWhole};
 ghost use Rattle.fixed_command.specs.Runs.{IsWholeRun};
 ghost use Rattle.fixed_io.specs.Report.{newlines_of};
 ghost use Rattle.line_engine.specs.Program.{outside};
@@ -13,20 +13,21 @@ ghost use Rattle.line_engine.specs.Program.{outside};
 use crate::explained::push_explanation;
 use crate::inputs::refuse_file;
 use crate::output::{LateOutput, inputs_of, refuse_input};
+use crate::rejects::RejectSink;
 use crate::settings::limit_asked;
 use command_line::device::{Failure, Unmarked, Writer};
 use command_line::given::{Asked, Given};
 use command_line::report::{Report, report_end, report_no_memory};
 use fixed_arrays::{ArrayRule, LiteralArrayRule};
-use fixed_command::watch::{Product as Whole, WatchedWhole};
 use fixed_command::{
-    ConvertRule, Limit, Offers, Refusals, RefusedLine, RenamedRule, Spelling, SwappedRule, Task,
-    Watch, run_task, whole_within, without_return,
+    ConvertRule, Limit, Offers, RefusedLine, RenamedRule, Spelling, SwappedRule, Task, TaskEnd,
+    run_task, run_whole_rule, whole_within, without_return,
 };
 use fixed_constants::{FormRule, PlainRule};
 use fixed_io::StdSink;
 use fixed_steps::Steps;
-use line_engine::{MemorySource, Sink, Source, Status, WholeRule, run_whole};
+use line_engine::{MemorySource, Sink, Source, Status};
+use line_rejects::Rejects;
 use std::fs::File;
 use std::io;
 use std::io::{ErrorKind, Read};
@@ -266,29 +267,6 @@ fn gather_file<'a>(rt: &HostRuntime, name: &'a str, all: &mut Gathered<'a>) -> S
     }
 }
 
-/// Writes what a rule answers for a whole input within the limit, or nothing if the input is refused. Returns how that
-/// ended, and the refused line.
-fn run_rule<R: WholeRule<L>, S: Source, K: Sink, L: Ledger>(
-    rt: &HostRuntime,
-    rule: &R,
-    limit: &Option<Limit>,
-    source: &mut S,
-    sink: &mut K,
-    steps: &mut Steps<L>,
-) -> (Status, Refusals)
-    ensures run { IsWholeRun (IsProduct (R.Answers rule.now)) (whole_limit_of limit.now)
-        (outside (S.left source.old) (S.asked source.old) (S.failures source.old)
-        (K.written sink.old) (K.failures sink.old) steps.old)
-        (outside (S.left source.new) (S.asked source.new) (S.failures source.new)
-        (K.written sink.new) (K.failures sink.new) steps.new) result.0 }
-{
-    let watch = &Watch::new();
-    let watched = WatchedWhole { rule, watch };
-    let whole = Whole { rule: &watched };
-    let status = run_whole(rt.alloc(), whole_within(limit), &whole, source, sink, steps);
-    (status, watch.refusals())
-}
-
 /// Writes the product of an input within the limit, or nothing if the input is refused. Returns how that ended, and the
 /// refused line.
 fn run_on<S: Source, K: Sink, L: Ledger>(
@@ -298,24 +276,30 @@ fn run_on<S: Source, K: Sink, L: Ledger>(
     source: &mut S,
     sink: &mut K,
     steps: &mut Steps<L>,
-) -> (Status, Refusals)
+) -> TaskEnd
     ensures run { IsWholeRun (IsProductOf product.now) (whole_limit_of limit.now)
         (outside (S.left source.old) (S.asked source.old) (S.failures source.old)
         (K.written sink.old) (K.failures sink.old) steps.old)
         (outside (S.left source.new) (S.asked source.new) (S.failures source.new)
-        (K.written sink.new) (K.failures sink.new) steps.new) result.0 }
+        (K.written sink.new) (K.failures sink.new) steps.new) result.status }
+    ensures reports { ¬ (result.status ≡ Status.NoMemory) → ReportsWhole (IsAnswerOf product.now)
+        (outside (S.left source.old) (S.asked source.old) (S.failures source.old)
+        (K.written sink.old) (K.failures sink.old) steps.old)
+        (outside (S.left source.new) (S.asked source.new) (S.failures source.new)
+        (K.written sink.new) (K.failures sink.new) steps.new) result }
 {
+    let alloc = rt.alloc();
     match product {
         Product::Constants(rule) => {
             let task = Task::Constants(*rule);
-            let end = run_task(rt.alloc(), limit, &task, source, sink, steps);
-            (end.status, end.refusals)
+            let mut rejects = Rejects::<RejectSink<'_>>::none();
+            run_task(alloc, limit, &task, &mut rejects, source, sink, steps)
         }
-        Product::List(rule) => run_rule(rt, rule, limit, source, sink, steps),
+        Product::List(rule) => run_whole_rule(alloc, limit, rule, false, source, sink, steps),
         Product::Literals(rule) => {
             let renamed = RenamedRule { rule };
             let plain = PlainRule { rule: &renamed };
-            run_rule(rt, &plain, limit, source, sink, steps)
+            run_whole_rule(alloc, limit, &plain, false, source, sink, steps)
         }
     }
 }
@@ -365,12 +349,12 @@ fn write_product<L: Ledger>(
         writer: &mut output,
         failure: &failure,
     });
-    let (ended, refusals) = run_on(rt, product, limit, &mut source, &mut sink, steps);
+    let end = run_on(rt, product, limit, &mut source, &mut sink, steps);
     let lines = sink.lines();
-    if let Some(line) = &refusals.first {
+    if let Some(line) = &end.refusals.first {
         report_line(rt, product, &all.ends, line, steps);
     }
-    let mut status = ended;
+    let mut status = end.status;
     if status == Status::Done {
         if let Err(error) = output.open() {
             failure.set(Some(error));

@@ -13,6 +13,7 @@ use crate::inputs::{Job, run_inputs_to};
 use crate::line_layout::{layout_asked, refuse_layout};
 use crate::options::{JSON, LIMIT};
 use crate::output::{open_answers, open_output};
+use crate::rejects::RejectFile;
 use crate::settings::{limit_asked, refuse_value};
 use command_line::device::{Failure, Output, Writer};
 use command_line::given::{Asked, Given, Refusal};
@@ -140,7 +141,19 @@ pub fn run_question<'a, L: Ledger>(
     };
     if words.is_empty() {
         let job = Job::Task(task);
-        Ok(run_inputs_to(rt, &job, &limit, "", &[file], &mut output, steps))
+        let failure = Failure::new(None);
+        let mut rejects = RejectFile::none(&failure);
+        let files = [file];
+        Ok(run_inputs_to(
+            rt,
+            &job,
+            &limit,
+            "",
+            &files,
+            &mut output,
+            &mut rejects,
+            steps,
+        ))
     } else {
         Ok(run_words(rt, form, question, words, &mut output, steps))
     }

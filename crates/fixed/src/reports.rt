@@ -9,7 +9,7 @@ use crate::options::REPORT;
 use command_line::given::Given;
 use command_line::json_line::JsonLine;
 use fixed_command::{Place, Tally, place_name};
-use fixed_report::{ErrorReport, Lost, MAX_GREATEST};
+use fixed_report::{ErrorReport, Lost, MAX_GREATEST, MAX_MEAN};
 use fixed_steps::Steps;
 use std::sync::ledger::Ledger;
 
@@ -55,8 +55,26 @@ fn push_first(line: &mut JsonLine, key: &str, name: &str, first: u64) {
     }
 }
 
-/// Appends which numeral has the greatest error, with the error and the same in ulps; or why that is not known.
-pub fn push_greatest<L: Ledger>(
+/// Appends that there are no means of errors.
+fn push_no_means(line: &mut JsonLine) {
+    line.null("mean_ulps");
+    line.null("rms_ulps");
+}
+
+/// Appends the mean of errors and the root of the mean of their squares, in ulps and rounded to six digits, if known.
+fn push_means(line: &mut JsonLine, errors: &ErrorReport) {
+    match errors.mean_texts() {
+        Some(texts) => {
+            line.string("mean_ulps", texts.mean.as_bytes(), MAX_MEAN);
+            line.string("rms_ulps", texts.root.as_bytes(), MAX_MEAN);
+        }
+        None => push_no_means(line),
+    }
+}
+
+/// Appends which numeral has the greatest error, with the error and the same in ulps, or why that is not known; and the
+/// means of errors.
+pub fn push_errors<L: Ledger>(
     line: &mut JsonLine,
     errors: &ErrorReport,
     name: &'static str,
@@ -84,6 +102,7 @@ pub fn push_greatest<L: Ledger>(
             line.close();
         }
     }
+    push_means(line, errors);
 }
 
 /// Reports the outcomes of numerals and the greatest error as an object of JSON. `name` is what their places are
@@ -101,7 +120,7 @@ pub fn send_object<L: Ledger>(
     let mut line = counts(file, tally);
     push_first(&mut line, "first_overflowed", name, tally.first_overflowed);
     push_first(&mut line, "first_refused", name, tally.first_refused);
-    push_greatest(&mut line, errors, name, steps);
+    push_errors(&mut line, errors, name, steps);
     line.send(rt);
 }
 

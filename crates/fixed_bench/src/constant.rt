@@ -2,16 +2,23 @@
 
 use fixed_io::{StdSink, StdSource};
 use fixed_steps::Steps;
-use line_engine::{LineRule, MAX_LIMIT, Output, Status, run_lines};
+use line_engine::{MAX_LIMIT, Output, Status};
+use run_engine::{LineRule, Rule, run_lines};
 use std::alloc::Global;
+use std::convert::Infallible;
 use std::sync::ledger::Ledger;
 
 /// Answers each line with one text.
 #[derive(Clone, Copy)]
 pub struct ConstantRule;
 
-impl<L: Ledger> LineRule<L> for ConstantRule {
-    ghost use Rattle.fixed_bench.specs.Constant.{IsConstant, constant_one, constant_kept, constant_room};
+impl<L: Ledger> Rule<L> for ConstantRule {
+    ghost use Rattle.fixed_bench.specs.Constant.{IsConstant, constant_one, constant_room};
+    ghost use Rattle.std.specs.Prelude.{[]};
+
+    type Note = ();
+
+    type Cause = Infallible;
 
     const PER_BYTE: u64 = 0;
 
@@ -27,14 +34,31 @@ impl<L: Ledger> LineRule<L> for ConstantRule {
 
     ghost Answers = { λ rule. IsConstant };
 
-    fn answer(&self, _line: &[u8], out: &mut Output, _steps: &mut Steps<L>) -> bool {
+    ghost Notes = { λ rule line note. Unit {0} };
+
+    ghost refusal = { λ rule line never. [] };
+
+    fn answer(
+        &self,
+        _line: &[u8],
+        out: &mut Output,
+        _steps: &mut Steps<L>,
+    ) -> Result<(), Infallible> {
         out.push_bytes(b"0 0 fits");
-        false
+        Ok(())
+    }
+
+    fn push_refusal(&self, _line: &[u8], never: &Infallible, _out: &mut Output) {
+        match *never {}
     }
 
     ghost room_law = { constant_room };
 
     ghost one_law = { λ rule. constant_one };
+}
+
+impl<L: Ledger> LineRule<L> for ConstantRule {
+    ghost use Rattle.fixed_bench.specs.Constant.{constant_kept};
 
     ghost kept_law = { λ rule. constant_kept };
 }

@@ -16,7 +16,6 @@ ghost use Rattle.fixed_pack.specs.declared.amounts.PackAmounts.{PackAmounts};
 ghost use Rattle.fixed_pack.specs.declared.bits.PackBits.{PackBits};
 
 use crate::commands::column::{HEADER, KEEP};
-use crate::commands::column_report::{self, Known};
 use crate::commands::column_words::{delimiter_of, destination_of, form_of, skipped_of};
 use crate::commands::convert::refuse_words;
 use crate::commands::pack::{Explains, bits_of};
@@ -27,13 +26,13 @@ use crate::options::{
     FIELD, PACK_FROM, PLACES, PLACES_MODE, POLICY, PRINT, RADIX, REPORT, SWAP, TARGET_MODE,
     UNPACK_TO, WORDS,
 };
-use crate::reports::ReportForm;
+use crate::rejects::{Guarded, RejectFile};
 use crate::settings::{
     PackInput, endian_of, is_like_format, known, mode_of, pack_input_of, policy_of, refuse_flag,
     refuse_value, spelling_of, written_floats_of,
 };
-use column_engine::{Column, ColumnWatch};
-use command_line::device::{Failure, Limited, Output, Unmarked, Writer};
+use column_engine::Column;
+use command_line::device::{Failure, Output, Unmarked, Writer};
 use command_line::given::{Asked, Given, Refusal};
 use command_line::report::{Report, report_end};
 use fixed_amounts::{
@@ -42,14 +41,12 @@ use fixed_amounts::{
 };
 use fixed_bits::Format;
 use fixed_command::{
-    AmountLines, ColumnConversion, Limit, Offers, Print, Spelling, bytes_within, convert_amounts,
-    print_named, run_amounts,
+    AmountLines, ColumnConversion, Limit, Offers, Print, Spelling, print_named, run_amounts,
 };
 use fixed_decimal::DecimalFormat;
 use fixed_io::{StdSink, StdSource};
 use fixed_numeral::ParseFixedError;
 use fixed_pack::{PackAmounts, PackBits, UnpackAmounts};
-use fixed_respell::Refusal as LineRefusal;
 use fixed_steps::Steps;
 use line_engine::Status;
 use run_engine::Refusals;
@@ -420,45 +417,6 @@ pub fn column<'a, L: Ledger>(
     run_inputs(rt, &job, format, given, files, steps)
 }
 
-/// Converts columns of one input into amounts, and reports on standard error why it did not end well.
-#[inline(never)]
-pub fn run_columns_on<R: Read + Drop, L: Ledger>(
-    rt: &HostRuntime,
-    conversion: &ColumnConversion<'_, AmountSettings>,
-    limit: &Option<Limit>,
-    file: Option<&str>,
-    reader: R,
-    output: &mut Output,
-    steps: &mut Steps<L>,
-) -> Status {
-    let watch = ColumnWatch::new(conversion.skipped.saturating_add(1));
-    let failure = Failure::new(None);
-    let mut limited = Limited::new(reader, bytes_within(limit));
-    let mut source = StdSource::new(&mut limited);
-    let mut sink = StdSink::new(Writer {
-        writer: output,
-        failure: &failure,
-    });
-    let end = convert_amounts(
-        rt.alloc(),
-        conversion,
-        &watch,
-        &mut source,
-        &mut sink,
-        steps,
-    );
-    let known = Known {
-        conversion,
-        watch: &watch,
-        report: None,
-        form: ReportForm::Text,
-        end: &end,
-        is_exceeded: limited.is_exceeded(),
-    };
-    column_report::report_end(rt, file, &known, sink.lines(), &failure, steps);
-    known.status()
-}
-
 /// Reports on standard error how many lines of an input were refused, with the text and the cause of the first.
 fn report_refused<L: Ledger>(
     rt: &HostRuntime,
@@ -497,19 +455,33 @@ pub fn run_on<R: Read + Drop, L: Ledger>(
     file: Option<&str>,
     reader: R,
     output: &mut Output,
+    rejects: &mut RejectFile<'_, '_>,
     steps: &mut Steps<L>,
 ) -> Status {
     let failure = Failure::new(None);
     let mut source = StdSource::new(Unmarked::new(reader));
     let mut sink = StdSink::new(Writer {
-        writer: output,
+        writer: Guarded {
+            writer: &mut *output,
+            failure: rejects.failure,
+        },
         failure: &failure,
     });
-    let end = run_amounts(rt.alloc(), limit, lines, &mut source, &mut sink, steps);
+    let told = &mut rejects.rejects;
+    let end = run_amounts(
+        rt.alloc(),
+        limit,
+        lines,
+        told,
+        &mut source,
+        &mut sink,
+        steps,
+    );
+    let status = rejects.end(end.status);
     // After a failed write, not all counted answers were written.
-    if !is_last(end.status) {
+    if !is_last(status) {
         report_refused(rt, lines, file, &end.watch, steps);
     }
-    report_end(rt, file, end.status, sink.lines(), &failure);
-    end.status
+    report_end(rt, file, status, sink.lines(), rejects.failure_or(&failure));
+    status
 }

@@ -6,8 +6,8 @@ use crate::commands::column_words::{
 };
 use crate::inputs::{Job, run_inputs};
 use crate::options::{
-    FROM, LIMIT, MODE, OUTPUT, PLACES, PLACES_MODE, POLICY, PRINT, RADIX, REPORT, SOURCE, TARGET,
-    TARGET_MODE,
+    FROM, LIMIT, MODE, OUTPUT, PLACES, PLACES_MODE, POLICY, PRINT, RADIX, REJECTS, REPORT, SOURCE,
+    TARGET, TARGET_MODE,
 };
 use crate::reports::report_asked;
 use crate::settings::{conversion, note_target_mode};
@@ -157,6 +157,7 @@ pub fn page() -> Page {
             KEEP,
             LIMIT,
             REPORT,
+            REJECTS,
             OUTPUT,
         ],
         end: "A format is I (signed) or U (unsigned), its whole bits, F and its fraction bits,\n\

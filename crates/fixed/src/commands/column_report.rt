@@ -4,10 +4,10 @@ use crate::commands::amounts::COLUMN_OFFERS;
 use crate::commands::column::OFFERS;
 use crate::explained::amount_rule;
 use crate::inputs::report_greatest;
-use crate::reports::{ReportForm, counts, push_greatest};
+use crate::reports::{ReportForm, counts, push_errors};
 use column_engine::name::write_name;
 use column_engine::place::field_end;
-use column_engine::{Column, ColumnEnd, ColumnWatch, FieldPlace, RefusedField, Stop};
+use column_engine::{Column, ColumnEnd, FieldPlace, RefusedField, Stop};
 use command_line::device::Failure;
 use command_line::json_line::JsonLine;
 use command_line::report::{Report, is_broken_pipe, push_words};
@@ -84,7 +84,7 @@ impl Explains for AmountSettings {
 }
 
 /// A name of a header.
-type Name = TextBuffer<MAX_HEADER>;
+pub type Name = TextBuffer<MAX_HEADER>;
 
 /// The known names of a header.
 #[derive(Drop)]
@@ -187,9 +187,9 @@ fn push_first<R: Explains, L: Ledger>(
     let reply = field.reply.as_bytes();
     let cause = reply.strip_prefix(b"error: ").unwrap_or(reply);
     report.text(", line ");
-    report.number(field.line);
+    report.number(field.place.line);
     report.text(", column ");
-    push_column(report, field.column, conversion.delimiter, header);
+    push_column(report, field.place.column, conversion.delimiter, header);
     report.text(", ");
     push_quoted(report, text);
     report.text(": ");
@@ -256,19 +256,19 @@ fn push_delimiter(report: &mut Report, delimiter: u8, header: &[u8], wanted: &[u
 fn push_header<R>(report: &mut Report, known: &Known<'_, R>, header: &[u8]) {
     let delimiter = known.conversion.delimiter;
     push_names(report, delimiter, header);
-    if let Some(Column::Named(name, _)) = known.conversion.columns.get(known.watch.word()) {
+    if let Some(Column::Named(name, _)) = known.conversion.columns.get(known.word) {
         push_delimiter(report, delimiter, header, name.as_bytes());
     }
 }
 
 /// Appends why a run stopped before the end of a text.
-fn push_stop(report: &mut Report, columns: &[Column], watch: &ColumnWatch, end: &ColumnEnd) {
+fn push_stop(report: &mut Report, columns: &[Column], word: usize, end: &ColumnEnd) {
     match end.stop {
         Stop::Done => (),
         Stop::ReadFault => report.text("a read failed"),
         Stop::WriteFault => report.text("a write failed"),
         Stop::NoMemory => report.text("there is no memory"),
-        Stop::NoName => push_missing(report, columns, watch.word()),
+        Stop::NoName => push_missing(report, columns, word),
         Stop::TooLong | Stop::Unclosed | Stop::NoColumn(_) => {
             report.text("record ");
             report.number(end.answered.saturating_add(1));
@@ -299,7 +299,7 @@ fn report_refused<R: Explains, L: Ledger>(
     header: Option<&[u8]>,
     steps: &mut Steps<L>,
 ) {
-    let end = known.end;
+    let end = &known.end;
     if end.refused == 0 || end.stop == Stop::WriteFault {
         return;
     }
@@ -308,8 +308,8 @@ fn report_refused<R: Explains, L: Ledger>(
     report.number(end.refused);
     report.text(", the first in record ");
     report.number(end.first);
-    if let Some(field) = known.watch.first() {
-        push_first(&mut report, known.conversion, &field, header, steps);
+    if let Some(field) = &known.first {
+        push_first(&mut report, known.conversion, field, header, steps);
     }
     report.send(rt);
 }
@@ -339,7 +339,7 @@ fn report_fields<R, L: Ledger>(
     header: Option<&[u8]>,
     steps: &mut Steps<L>,
 ) {
-    let fields = match known.report {
+    let fields = match &known.report {
         Some(fields) if !matches!(known.end.stop, Stop::WriteFault | Stop::NoMemory) => fields,
         _ => return,
     };
@@ -377,25 +377,22 @@ fn push_member<R>(
 fn report_object<R, L: Ledger>(
     rt: &HostRuntime,
     file: Option<&str>,
-    fields: &FieldReport<'_>,
+    fields: &FieldReport,
     known: &Known<'_, R>,
     header: Option<&[u8]>,
     steps: &mut Steps<L>,
 ) {
-    let mut line = counts(file, &fields.tally());
-    let overflowed = fields.first_overflowed();
+    let mut line = counts(file, &fields.tally);
+    let overflowed = fields.first_overflowed;
     push_member(&mut line, "first_overflowed", overflowed, known, header);
     push_member(
         &mut line,
         "first_refused",
-        fields.first_refused(),
+        fields.first_refused,
         known,
         header,
     );
-    match &fields.errors() {
-        Some(errors) => push_greatest(&mut line, errors, place_name(Place::Record), steps),
-        None => line.null("greatest_error"),
-    }
+    push_errors(&mut line, &fields.errors, place_name(Place::Record), steps);
     line.send(rt);
 }
 
@@ -403,15 +400,15 @@ fn report_object<R, L: Ledger>(
 fn report_text<R, L: Ledger>(
     rt: &HostRuntime,
     file: Option<&str>,
-    fields: &FieldReport<'_>,
+    fields: &FieldReport,
     known: &Known<'_, R>,
     header: Option<&[u8]>,
     steps: &mut Steps<L>,
 ) {
     let mut report = Report::of(file);
-    let text = tally_text(&fields.tally(), Place::Record);
+    let text = tally_text(&fields.tally, Place::Record);
     report.bytes(text.as_bytes(), MAX_TALLY);
-    let overflowed = fields.first_overflowed();
+    let overflowed = fields.first_overflowed;
     push_place(
         &mut report,
         "; the first overflowed in line ",
@@ -419,7 +416,7 @@ fn report_text<R, L: Ledger>(
         known,
         header,
     );
-    let refused = fields.first_refused();
+    let refused = fields.first_refused;
     push_place(
         &mut report,
         "; the first refused in line ",
@@ -428,15 +425,13 @@ fn report_text<R, L: Ledger>(
         header,
     );
     report.send(rt);
-    if let Some(errors) = &fields.errors() {
-        report_greatest(
-            rt,
-            file,
-            errors,
-            place_name(Place::Record).as_bytes(),
-            steps,
-        );
-    }
+    report_greatest(
+        rt,
+        file,
+        &fields.errors,
+        place_name(Place::Record).as_bytes(),
+        steps,
+    );
 }
 
 /// What is known of the converted columns of a file.
@@ -444,14 +439,18 @@ fn report_text<R, L: Ledger>(
 pub struct Known<'a, R> {
     /// The conversion.
     pub conversion: &'a ColumnConversion<'a, R>,
-    /// What was kept of its records for reports.
-    pub watch: &'a ColumnWatch,
+    /// The first bytes of its header, if it was read.
+    pub header: Option<Name>,
+    /// The index of the operand that was last looked up in the header.
+    pub word: usize,
+    /// The first refused field.
+    pub first: Option<RefusedField>,
     /// The outcomes of its fields, if requested.
-    pub report: Option<&'a FieldReport<'a>>,
+    pub report: Option<FieldReport>,
     /// How these are reported.
     pub form: ReportForm,
     /// How its records ended.
-    pub end: &'a ColumnEnd,
+    pub end: ColumnEnd,
     /// Whether the read that failed was past the limit.
     pub is_exceeded: bool,
 }
@@ -483,14 +482,13 @@ pub fn report_end<R: Explains, L: Ledger>(
     steps: &mut Steps<L>,
 ) {
     let error = failure.take();
-    let kept = known.watch.header();
-    let header = match &kept {
+    let header = match &known.header {
         Some(header) => Some(header.as_bytes()),
         None => None,
     };
     report_refused(rt, file, known, header, steps);
     report_fields(rt, file, known, header, steps);
-    let end = known.end;
+    let end = &known.end;
     if end.stop == Stop::Done || is_broken_pipe(&error) {
         return;
     }
@@ -498,7 +496,7 @@ pub fn report_end<R: Explains, L: Ledger>(
     if known.is_too_long() {
         report.text("the input is longer than the limit");
     } else {
-        push_stop(&mut report, &known.conversion.columns, known.watch, end);
+        push_stop(&mut report, &known.conversion.columns, known.word, end);
     }
     if let Some(error) = &error {
         report.text(": ");

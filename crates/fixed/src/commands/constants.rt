@@ -1,12 +1,17 @@
 //! `fixed constants`: writes named literals in one form, or a list of them or of numerals as an array or a memory file.
 
 ghost use Rattle.std.specs.Prelude.{◌≡◌, IfErr, IfOk, List, MatchOption, None, codes, ℕ};
+ghost use Rattle.std.specs.List.{list_any};
 ghost use Rattle.command_line.specs.Words.{keyword_at, value_of};
 ghost use Rattle.fixed.specs.Constants.{IsArrayAsked, IsArrayWord, IsFormAsked, IsGuardAsked, IsNameAsked};
-ghost use Rattle.fixed.specs.Constants.{HasNoListOption, HasNoNumeralOption};
-ghost use Rattle.fixed.specs.Constants.{IsNumeralsAsked, is_c, is_file};
+ghost use Rattle.fixed.specs.Constants.{AreLiteralsAsked, AreNumeralsAsked, HasNoListOption, HasNoNumeralOption};
+ghost use Rattle.fixed.specs.Constants.{IsListAsked, IsListNamed, IsNumeralsAsked, IsUnswapped, guarded, is_c, is_file};
+ghost use Rattle.fixed.specs.Constants.{is_header, is_swapped};
+ghost use Rattle.fixed.specs.declared.product.Product.{Product};
 ghost use Rattle.fixed_arrays.specs.declared.form.ArrayForm.{ArrayForm};
+ghost use Rattle.fixed_arrays.specs.declared.literal_rule.LiteralArrayRule.{LiteralArrayRule};
 ghost use Rattle.fixed_arrays.specs.declared.rule.Numerals.{Numerals};
+ghost use Rattle.fixed_constants.specs.declared.form_rule.FormRule.{FormRule};
 
 use crate::commands::column::DECIMAL;
 use crate::commands::column_words::decimal_of;
@@ -173,6 +178,13 @@ fn is_c(form: ArrayForm) -> bool
     matches!(form, ArrayForm::C)
 }
 
+/// Whether literals in this form are a header of C.
+fn is_header(form: Form) -> bool
+    ensures { result ≡ is_header form }
+{
+    matches!(form, Form::C)
+}
+
 /// Returns why a list in this form cannot have this name.
 fn why_no_name(form: ArrayForm, guard: &str, name: &str) -> &'static str {
     if form == ArrayForm::C && is_kept(name.as_bytes()) {
@@ -244,7 +256,7 @@ fn refuse_list<'a>(given: &Given<'_, 'a>) -> Asked<'a, ()>
     refuse_of_list(given, &RADIX)?;
     refuse_of_list(given, &POLICY)?;
     refuse_of_list(given, &MODE)?;
-    refuse_layout(given, FOR_NUMERALS)
+    refuse_layout(given, FOR_LISTS)
 }
 
 /// Refuses the options of numerals for a list of named literals.
@@ -259,15 +271,27 @@ fn refuse_numerals<'a>(given: &Given<'_, 'a>) -> Asked<'a, ()>
     refuse_layout(given, FOR_NUMERALS)
 }
 
+/// Whether a byte is read as another one, since `decimal` comes before a fraction.
+fn is_swapped(decimal: u8, byte: u8) -> bool
+    ensures { result ≡ is_swapped decimal byte }
+{
+    byte == b'.' || byte == decimal
+}
+
+/// Whether one of `bytes` is read as another one.
+fn has_swapped(decimal: u8, bytes: &[u8]) -> bool
+    ensures { result ≡ list_any (is_swapped decimal) bytes.now }
+{
+    bytes.iter().any(|byte| is_swapped(decimal, *byte))
+}
+
 /// Refuses a comment's prefix with a byte that is read as another one, since `decimal` comes before a fraction.
-fn refuse_swapped<'a>(given: &Given<'_, 'a>, decimal: u8) -> Asked<'a, ()> {
+fn refuse_swapped<'a>(given: &Given<'_, 'a>, decimal: u8) -> Asked<'a, ()>
+    ensures value { IfOk result (λ _. IsUnswapped decimal (value_of given.now (codes "comments"))) }
+    ensures refused { IfErr result (λ _. ¬ IsUnswapped decimal (value_of given.now (codes "comments"))) }
+{
     match given.value(&PASS_COMMENTS) {
-        Some(prefix)
-            if decimal != b'.'
-                && prefix
-                    .as_bytes()
-                    .iter()
-                    .any(|byte| *byte == b'.' || *byte == decimal) => {
+        Some(prefix) if decimal != b'.' && has_swapped(decimal, prefix.as_bytes()) => {
             Err(Refusal::Word(
                 prefix,
                 "has a point or the byte of --decimal, which begin no comment here",
@@ -277,29 +301,51 @@ fn refuse_swapped<'a>(given: &Given<'_, 'a>, decimal: u8) -> Asked<'a, ()> {
     }
 }
 
-/// Returns the list of the numerals of all files, read into the format that a word names, in the form of `list`.
-fn numeral_list<'p, 'a: 'p>(
-    given: &Given<'_, 'a>,
-    word: &'a str,
-    list: LiteralArrayRule<'p>,
-    layout: &'p Option<Layout>,
-) -> Asked<'a, Product<'p>> {
+/// Returns how the numerals of a list are read, into the format that a word names, and the byte before a fraction.
+fn reading_of<'a>(given: &Given<'_, 'a>, word: &'a str) -> Asked<'a, (Numerals, u8)>
+    ensures value { IfOk result (λ a. AreNumeralsAsked given.now word.now a.0 a.1) }
+    ensures refused { IfErr result (λ _. (a : Numerals) (decimal : ℕ)
+        → ¬ AreNumeralsAsked given.now word.now a decimal) }
+{
     let numerals = match numerals_of(given, word) {
         Ok(numerals) => numerals,
         Err(refusal) => return Err(refusal),
     };
-    let rule = ArrayRule {
-        form: list.form,
-        numerals,
-        name: list.name,
-        guard: list.guard,
-        layout,
-    };
     match decimal_of(given) {
         Ok(decimal) => {
             refuse_swapped(given, decimal)?;
-            Ok(Product::List(SwappedRule { rule, decimal }))
+            Ok((numerals, decimal))
         }
+        Err(refusal) => Err(refusal),
+    }
+}
+
+/// Returns the form of a list, with the guard if there is one.
+fn guarded(guard: &[u8], form: ArrayForm) -> ArrayForm
+    ensures { result ≡ guarded guard.now form }
+{
+    if guard.is_empty() {
+        form
+    } else {
+        ArrayForm::GuardedC
+    }
+}
+
+/// Returns the form, the guard and the name of a list.
+fn names_of<'a>(given: &Given<'_, 'a>, form: ArrayForm) -> Asked<'a, LiteralArrayRule<'a>>
+    ensures value { IfOk result (λ list. IsListNamed given.now form list) }
+    ensures refused { IfErr result (λ _. (list : LiteralArrayRule) → ¬ IsListNamed given.now form list) }
+{
+    let guard = match guard_of(given, is_c(form)) {
+        Ok(guard) => guard,
+        Err(refusal) => return Err(refusal),
+    };
+    match name_of(given, form, guard) {
+        Ok(name) => Ok(LiteralArrayRule {
+            form: guarded(guard.as_bytes(), form),
+            name: name.as_bytes(),
+            guard: guard.as_bytes(),
+        }),
         Err(refusal) => Err(refusal),
     }
 }
@@ -309,21 +355,31 @@ fn list_of<'p, 'a: 'p>(
     given: &Given<'_, 'a>,
     form: ArrayForm,
     layout: &'p Option<Layout>,
-) -> Asked<'a, Product<'p>> {
-    let guard = guard_of(given, is_c(form))?;
-    let name = name_of(given, form, guard)?.as_bytes();
-    let form = if guard.is_empty() {
-        form
-    } else {
-        ArrayForm::GuardedC
+) -> Asked<'a, Product<'p>>
+    ensures value { IfOk result (λ list. IsListAsked given.now form layout.now list) }
+    ensures refused { IfErr result (λ _. (list : Product) → ¬ IsListAsked given.now form layout.now list) }
+{
+    let list = match names_of(given, form) {
+        Ok(list) => list,
+        Err(refusal) => return Err(refusal),
     };
-    let guard = guard.as_bytes();
-    let list = LiteralArrayRule { form, name, guard };
     match given.value(&NUMERALS) {
-        Some(word) => numeral_list(given, word, list, layout),
         None => match refuse_numerals(given) {
             Ok(()) => Ok(Product::Literals(list)),
             Err(refusal) => Err(refusal),
+        },
+        Some(word) => match reading_of(given, word) {
+            Err(refusal) => Err(refusal),
+            Ok((numerals, decimal)) => {
+                let rule = ArrayRule {
+                    form: list.form,
+                    numerals,
+                    name: list.name,
+                    guard: list.guard,
+                    layout,
+                };
+                Ok(Product::List(SwappedRule { rule, decimal }))
+            }
         },
     }
 }
@@ -345,6 +401,22 @@ fn run_list<'a, L: Ledger>(
     }
 }
 
+/// Returns how named literals are written, and the index of the first file.
+fn literals_of<'a>(given: &Given<'_, 'a>) -> Asked<'a, (FormRule<'a>, usize)>
+    ensures value { IfOk result (λ a. AreLiteralsAsked given.now a.0 a.1) }
+    ensures refused { IfErr result (λ _. (rule : FormRule) (files : ℕ) → ¬ AreLiteralsAsked given.now rule files) }
+{
+    refuse_list(given)?;
+    let (form, files) = form_and_files(given);
+    match guard_of(given, is_header(form)) {
+        Ok(guard) => {
+            let guard = guard.as_bytes();
+            Ok((FormRule { form, guard }, files))
+        }
+        Err(refusal) => Err(refusal),
+    }
+}
+
 /// Writes the constants of all files, or the list of their numbers, as one product.
 pub fn run<'a, L: Ledger>(
     rt: &HostRuntime,
@@ -354,11 +426,8 @@ pub fn run<'a, L: Ledger>(
     if let Some(form) = array_form(given) {
         return run_list(rt, given, form, steps);
     }
-    refuse_list(given)?;
-    let (form, files) = form_and_files(given);
-    let rule = FormRule {
-        form,
-        guard: guard_of(given, form == Form::C)?.as_bytes(),
-    };
-    run_product(rt, &Product::Constants(rule), given, files, steps)
+    match literals_of(given) {
+        Ok((rule, files)) => run_product(rt, &Product::Constants(rule), given, files, steps),
+        Err(refusal) => Err(refusal),
+    }
 }

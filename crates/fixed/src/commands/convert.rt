@@ -14,7 +14,8 @@ use crate::inputs::{Job, run_inputs};
 use crate::line_layout::{has_layout, layout_of};
 use crate::options::{
     COMMENTS, FROM, KEEP_WORDS, LIMIT, MODE, OUTPUT, PLACES, PLACES_MODE, POLICY, PRINT_OR_ERROR,
-    RADIX, REFUSED, REPORT, SEPARATORS, SKIP_BLANK, SOURCE, TARGET, TARGET_MODE, TRIM, WORDS,
+    RADIX, REFUSED, REJECTS, REPORT, SEPARATORS, SKIP_BLANK, SOURCE, TARGET, TARGET_MODE, TRIM,
+    WORDS,
 };
 use crate::reports::report_asked;
 use crate::settings::{conversion, note_target_mode};
@@ -58,6 +59,7 @@ pub fn page() -> Page {
             REFUSED,
             KEEP_WORDS,
             REPORT,
+            REJECTS,
             OUTPUT,
         ],
         end: "A format is I (signed) or U (unsigned), its whole bits, F and its fraction bits,\n\

@@ -6,7 +6,7 @@ ghost use Rattle.fixed_command.specs.declared.task.Task.{Task};
 
 use crate::inputs::{Job, run_inputs};
 use crate::line_layout::layout_asked;
-use crate::options::{COMMENTS, LIMIT, OUTPUT, SKIP_BLANK, TRIM};
+use crate::options::{COMMENTS, LIMIT, OUTPUT, REJECTS, SKIP_BLANK, TRIM};
 use command_line::given::{Asked, Given};
 use command_line::page::{FILES, Page};
 use fixed_command::Task;
@@ -22,7 +22,7 @@ pub fn page() -> Page {
         usage: "fixed enclose [OPTIONS] [FILE]...",
         operands: &[FILES],
         has_numerals: false,
-        options: &[TRIM, SKIP_BLANK, COMMENTS, LIMIT, OUTPUT],
+        options: &[TRIM, SKIP_BLANK, COMMENTS, LIMIT, REJECTS, OUTPUT],
         end: "Example: echo '10 I4F4 3.14' | fixed enclose",
     }
 }

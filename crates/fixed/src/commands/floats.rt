@@ -136,21 +136,72 @@ fn report_end(
     send_written(rt, report, &error, written);
 }
 
+/// An observer of words that may report what it counted.
+pub trait Reports {
+    /// Reports what was counted of an input that ended with this status on standard error.
+    fn report<L: Ledger>(
+        &self,
+        rt: &HostRuntime,
+        form: ReportForm,
+        input: &WordInput<'_>,
+        status: Status,
+        steps: &mut Steps<L>,
+    );
+}
+
+/// No report.
+impl Reports for () {
+    fn report<L: Ledger>(
+        &self,
+        _rt: &HostRuntime,
+        _form: ReportForm,
+        _input: &WordInput<'_>,
+        _status: Status,
+        _steps: &mut Steps<L>,
+    ) {}
+}
+
+/// The outcomes of words and the greatest error. After a failed write nothing is reported, since not all counted words
+/// were written.
+impl<R: Rounds> Reports for WordReport<R> {
+    fn report<L: Ledger>(
+        &self,
+        rt: &HostRuntime,
+        form: ReportForm,
+        input: &WordInput<'_>,
+        status: Status,
+        steps: &mut Steps<L>,
+    ) {
+        if status == Status::WriteFault {
+            return;
+        }
+        let (name, file) = (input.item.name(), input.file);
+        match form {
+            ReportForm::Text => {
+                report_tally(rt, name, file, &self.tally);
+                report_greatest(rt, file, &self.errors, name.as_bytes(), steps);
+            }
+            ReportForm::Json => send_object(rt, file, &self.tally, &self.errors, name, steps),
+        }
+    }
+}
+
 /// Recodes one input by a rule, and reports on standard error why it did not end well.
 pub fn recode_on<
     Q: Recode<Cause = WordRefusal> + Drop,
-    W: WordWatch<WordRefusal, L> + Drop,
+    W: WordWatch<WordRefusal, L> + Reports + Drop,
     R: Read + Drop,
     L: Ledger,
 >(
     rt: &HostRuntime,
     rule: Q,
     watch: W,
+    form: ReportForm,
     input: &WordInput<'_>,
     reader: R,
     output: &mut Output,
     steps: &mut Steps<L>,
-) -> (Status, W) {
+) -> Status {
     let failure = Failure::new(None);
     let taken = Cell::new(0);
     let mut source = StdSource::new(reader);
@@ -166,8 +217,17 @@ pub fn recode_on<
         left_over,
         watch,
     } = run_recode(input.limit, rule, watch, &mut source, &mut sink, steps);
+    let status = status_of(&end);
+    // What was counted comes after the word that ends an input, and before a failure.
+    let has_failed = !matches!(status, Status::Done | Status::Faults);
+    if has_failed {
+        watch.report(rt, form, input, status, steps);
+    }
     report_end(rt, input, &end, left_over, taken.get(), &failure);
-    (status_of(&end), watch)
+    if !has_failed {
+        watch.report(rt, form, input, status, steps);
+    }
+    status
 }
 
 /// Appends the number of the first such word, or nothing if there is none.
@@ -205,29 +265,6 @@ fn report_tally(rt: &HostRuntime, name: &str, file: Option<&str>, tally: &Tally)
     report.send(rt);
 }
 
-/// Reports the outcomes of words and the greatest error on standard error. After a failed write it reports nothing,
-/// since not all counted words were written.
-pub fn report_recoded<R: Rounds, L: Ledger>(
-    rt: &HostRuntime,
-    form: ReportForm,
-    input: &WordInput<'_>,
-    status: Status,
-    words: &WordReport<R>,
-    steps: &mut Steps<L>,
-) {
-    if status == Status::WriteFault {
-        return;
-    }
-    let (name, file) = (input.item.name(), input.file);
-    match form {
-        ReportForm::Text => {
-            report_tally(rt, name, file, &words.tally);
-            report_greatest(rt, file, &words.errors, name.as_bytes(), steps);
-        }
-        ReportForm::Json => send_object(rt, file, &words.tally, &words.errors, name, steps),
-    }
-}
-
 /// Reads the floats of one input into words, and reports on standard error why it did not end well.
 #[inline(never)]
 pub fn pack_on<R: Read + Drop, L: Ledger>(
@@ -245,13 +282,16 @@ pub fn pack_on<R: Read + Drop, L: Ledger>(
         file,
         limit,
     };
-    let Some(form) = form else {
-        return recode_on(rt, *floats, (), &input, reader, output, steps).0;
-    };
-    let report = WordReport::new(rt.alloc(), *floats);
-    let (status, report) = recode_on(rt, *floats, report, &input, reader, output, steps);
-    report_recoded(rt, form, &input, status, &report, steps);
-    status
+    match form {
+        None => {
+            let form = ReportForm::Text;
+            recode_on(rt, *floats, (), form, &input, reader, output, steps)
+        }
+        Some(form) => {
+            let report = WordReport::new(rt.alloc(), *floats);
+            recode_on(rt, *floats, report, form, &input, reader, output, steps)
+        }
+    }
 }
 
 /// Writes the words of one input as floats, and reports on standard error why it did not end well.
@@ -270,5 +310,6 @@ pub fn unpack_on<R: Read + Drop, L: Ledger>(
         file,
         limit,
     };
-    recode_on(rt, *words, (), &input, reader, output, steps).0
+    let form = ReportForm::Text;
+    recode_on(rt, *words, (), form, &input, reader, output, steps)
 }

@@ -7,27 +7,32 @@ ghost use Rattle.json_lines.specs.Path.{PathStep, step_of};
 use crate::commands::amounts;
 use crate::commands::column_words::form_of;
 use crate::explained::push_explanation;
-use crate::inputs::{Job, is_last, run_inputs};
+use crate::inputs::{Job, asked_report, is_last, run_inputs};
 use crate::line_layout::layout_of;
 use crate::options::{
-    FROM, LIMIT, MODE, OUTPUT, PLACES, PLACES_MODE, POLICY, PRINT, RADIX, SOURCE, TARGET,
-    TARGET_MODE,
+    FROM, LIMIT, MODE, OUTPUT, PLACES, PLACES_MODE, POLICY, PRINT, RADIX, REJECTS, REPORT, SOURCE,
+    TARGET, TARGET_MODE,
 };
+use crate::rejects::{RejectFile, answer_sink};
+use crate::reports::{ReportForm, report_asked, report_lines};
 use crate::settings::{conversion, note_target_mode};
-use column_engine::FieldRule;
-use command_line::device::{Failure, Output, Unmarked, Writer};
+use column_engine::{FieldRule, FieldWatch};
+use command_line::device::{Failure, Output, Unmarked};
 use command_line::given::{Asked, Given, Refusal};
 use command_line::page::{Operand, Page, Row};
 use command_line::report::{Report, report_end};
 use fixed_amounts::{AmountPrint, AmountSettings};
-use fixed_command::{ConvertRule, FieldForm, FieldNumerals, Layout, Limit, Offers, Print};
-use fixed_io::{StdSink, StdSource};
+use fixed_command::{
+    ConvertRule, FieldForm, FieldNumerals, FieldReport, Layout, Limit, Offers, Print, RefusedFields,
+};
+use fixed_io::StdSource;
 use fixed_numeral::Radix;
 use fixed_steps::Steps;
 use json_lines::{Form, JsonRefusal, JsonTask, PathFault, Step, path_named, run_json};
 use line_engine::Status;
 use std::alloc::Global;
 use std::io::Read;
+use std::mem;
 use std::sync::ledger::Ledger;
 
 /// How many characters of a refused text a report shows.
@@ -97,6 +102,8 @@ pub struct JsonJob<'a> {
     steps: Vec<Step<'a>>,
     /// How they are exchanged.
     form: Form<'a>,
+    /// The report of the values that is requested, if any.
+    report: Option<ReportForm>,
 }
 
 pub fn page() -> Page {
@@ -121,6 +128,8 @@ pub fn page() -> Page {
             COMMENTS,
             KEEP,
             LIMIT,
+            REPORT,
+            REJECTS,
             OUTPUT,
         ],
         end: "Each line is a JSON value. PATH leads from there to numbers, or strings that are\n\
@@ -241,40 +250,81 @@ fn report_refused<L: Ledger>(
     report.send(rt);
 }
 
-/// Converts the values of one input by a rule, and reports on standard error why it did not end well.
+/// How the conversion of the values of an input ended.
+#[derive(Drop)]
+struct ValuesEnd<W> {
+    /// Its status, which also tells of a failed write of rejects.
+    status: Status,
+    /// How many lines were answered.
+    lines: u64,
+    /// How many of them were refused.
+    refused: u64,
+    /// The first refused one.
+    first: Option<JsonRefusal>,
+    /// The observer of the values.
+    watch: W,
+}
+
+/// Converts the values of one input by a rule, and tells an observer of each. Each refused value or line has a line of
+/// rejects.
 #[inline(never)]
-fn run_rule<A: FieldRule<L>, R: Read + Drop, L: Ledger>(
+fn run_rule<A: FieldRule<L>, W: FieldWatch<A, L> + Drop, R: Read + Drop, L: Ledger>(
     rt: &HostRuntime,
     job: &JsonJob<'_>,
     rule: &A,
     limit: &Option<Limit>,
-    file: Option<&str>,
+    watch: W,
     reader: R,
     output: &mut Output,
+    rejects: &mut RejectFile<'_, '_>,
+    failure: &Failure,
     steps: &mut Steps<L>,
-) -> Status {
+) -> ValuesEnd<W> {
     let task = JsonTask {
         rule,
         steps: &job.steps,
         form: job.form,
     };
-    let failure = Failure::new(None);
     let mut source = StdSource::new(Unmarked::new(reader));
-    let mut sink = StdSink::new(Writer {
-        writer: output,
-        failure: &failure,
-    });
-    let end = run_json(rt.alloc(), limit, &task, &mut source, &mut sink, steps);
+    let writer = mem::replace(output, Output::Nowhere);
+    let mut sink = answer_sink(writer, rejects.failure, failure);
+    let observer = RefusedFields::new(rejects.take(), watch);
+    let end = run_json(rt.alloc(), limit, &task, observer, &mut source, &mut sink, steps);
+    let fields = end.observer;
+    let lines = sink.lines();
+    *output = sink.into_writer().writer.writer;
+    ValuesEnd {
+        status: rejects.end_with(fields.rejects, end.status),
+        lines,
+        refused: end.refused,
+        first: end.first,
+        watch: fields.watch,
+    }
+}
+
+/// Reports on standard error the first refused line and the outcomes of an input, if these are kept, and why it did not
+/// end well.
+fn report<W, L: Ledger>(
+    rt: &HostRuntime,
+    job: &JsonJob<'_>,
+    file: Option<&str>,
+    end: &ValuesEnd<W>,
+    outcomes: Option<&FieldReport>,
+    failure: &Failure,
+    steps: &mut Steps<L>,
+) {
     if !is_last(end.status) {
         if let Some(first) = &end.first {
             report_refused(rt, job, file, end.refused, first, steps);
         }
+        if let (Some(form), Some(fields)) = (job.report, outcomes) {
+            report_lines(rt, form, file, &fields.tally, &fields.errors, steps);
+        }
     }
-    report_end(rt, file, end.status, sink.lines(), &failure);
-    end.status
+    report_end(rt, file, end.status, end.lines, failure);
 }
 
-/// Converts the values of one input.
+/// Converts the values of one input, and reports on standard error why it did not end well.
 pub fn run_on<R: Read + Drop, L: Ledger>(
     rt: &HostRuntime,
     job: &JsonJob<'_>,
@@ -282,8 +332,10 @@ pub fn run_on<R: Read + Drop, L: Ledger>(
     file: Option<&str>,
     reader: R,
     output: &mut Output,
+    rejects: &mut RejectFile<'_, '_>,
     steps: &mut Steps<L>,
 ) -> Status {
+    let failure = Failure::new(None);
     match &job.rule {
         ValueRule::Binary(rule) => {
             let numerals = FieldNumerals {
@@ -291,7 +343,13 @@ pub fn run_on<R: Read + Drop, L: Ledger>(
                 radix: rule.settings().radix,
                 form: &job.spelling,
             };
-            run_rule(rt, job, &numerals, limit, file, reader, output, steps)
+            let watch = asked_report(rt, rule, job.report);
+            let end = run_rule(
+                rt, job, &numerals, limit, watch, reader, output, rejects, &failure, steps,
+            );
+            let failure = rejects.failure_or(&failure);
+            report(rt, job, file, &end, end.watch.as_ref(), failure, steps);
+            end.status
         }
         ValueRule::Amount(rule) => {
             let numerals = FieldNumerals {
@@ -299,7 +357,12 @@ pub fn run_on<R: Read + Drop, L: Ledger>(
                 radix: Radix::Dec,
                 form: &job.spelling,
             };
-            run_rule(rt, job, &numerals, limit, file, reader, output, steps)
+            let end = run_rule(
+                rt, job, &numerals, limit, (), reader, output, rejects, &failure, steps,
+            );
+            let failure = rejects.failure_or(&failure);
+            report(rt, job, file, &end, None, failure, steps);
+            end.status
         }
     }
 }
@@ -328,6 +391,7 @@ pub fn run<'a, L: Ledger>(
         spelling,
         steps: path,
         form: json_form(given, quotes, &layout),
+        report: report_asked(given),
     });
     let format = given.needed(1, "SOURCE")?;
     run_inputs(rt, &job, format, given, files, steps)

@@ -1,6 +1,6 @@
 //! `fixed repack`: converts raw words to raw words of another format.
 
-use crate::commands::floats::{Item, WordInput, recode_on, report_recoded};
+use crate::commands::floats::{Item, WordInput, recode_on};
 use crate::inputs::{Job, run_inputs};
 use crate::options::{ENDIAN, ENDIAN_OUT, LIMIT, OUTPUT, POLICY, REPORT, TARGET_MODE};
 use crate::reports::{ReportForm, report_asked};
@@ -71,13 +71,16 @@ pub fn run_on<R: Read + Drop, L: Ledger>(
         file,
         limit,
     };
-    let Some(form) = form else {
-        return recode_on(rt, *words, (), &input, reader, output, steps).0;
-    };
-    let report = WordReport::new(rt.alloc(), *words);
-    let (status, report) = recode_on(rt, *words, report, &input, reader, output, steps);
-    report_recoded(rt, form, &input, status, &report, steps);
-    status
+    match form {
+        None => {
+            let form = ReportForm::Text;
+            recode_on(rt, *words, (), form, &input, reader, output, steps)
+        }
+        Some(form) => {
+            let report = WordReport::new(rt.alloc(), *words);
+            recode_on(rt, *words, report, form, &input, reader, output, steps)
+        }
+    }
 }
 
 /// Writes the words of each file as words of another format.

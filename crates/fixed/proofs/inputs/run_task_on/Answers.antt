@@ -3,13 +3,17 @@ use Rattle.command_line.specs.Device.{written_to}
 use Rattle.fixed.proofs.inputs.run_task_on.Goals as goal
 
 pub returns : goal.returns
-returns g c = record {
-  before = _;
-  after = _;
-  runs = c.run_task-end.ensures.run;
-  input = rw c.new-source.ensures.reader c.new.ensures;
-  from = rw c.new-sink.ensures.writer (ap (written_to g.S.Write.contents g.F.Write.contents) c.replace-writer.ensures.value);
-  to = ap (λ w. written_to g.S.Write.contents g.F.Write.contents w.writer) (sym c.into_writer.ensures);
-  no_read_failed = c.new-source.ensures.failures;
-  no_write_failed = c.new-sink.ensures.failures;
-}
+returns g c = (
+  c.run_task-end.result.status,
+  c.end-status.ensures,
+  record {
+    before = _;
+    after = _;
+    runs = c.run_task-end.ensures.run;
+    input = rw c.new-source.ensures.reader c.new.ensures;
+    from = rw c.new-sink.ensures.writer (ap (written_to g.S.Write.contents g.F.Write.contents) c.replace-writer.ensures.value);
+    to = ap (λ w. written_to g.S.Write.contents g.F.Write.contents w.writer.writer) (sym c.into_writer.ensures);
+    no_read_failed = c.new-source.ensures.failures;
+    no_write_failed = c.new-sink.ensures.failures;
+  },
+)
