@@ -17,7 +17,7 @@
 #
 # JOBS=N: how many proofs are made at a time. If it is not given, processors and memory decide.
 # STORE=DIR: where what was compiled is kept, for every target and every clone; by default lomdeqash in the user's cache.
-# ANEW=1: proves again what is kept beside the toolchain.
+# ANEW=1: proves again what is kept beside the toolchain, and compiles again what is in the store.
 
 PREFIX ?= /usr/local
 export STORE ANEW

@@ -162,6 +162,7 @@ TALLY = re.compile(
     r", refused: (\d+)(?: \(the first in (\w+) (\d+)\))?(?:; the first overflowed in line (\d+), column ('.*?'|\d+))?"
     r"(?:; the first refused in line (\d+), column ('.*?'|\d+))?$")
 GREATEST = re.compile(r"greatest error in (\w+) (\d+): (.*), in ulps: (.*)$")
+MEANS = re.compile(r"mean error in ulps: (.*), RMS: (.*) \(rounded to six digits\)$")
 
 
 def first_of(name, number, line, column):
@@ -178,10 +179,12 @@ def report_facts(file, lines):
     count, exact, rounded, overflowed, *first, refused = found.groups()[:7]
     last = found.groups()[7:]
     greatest = next(filter(None, map(GREATEST.search, lines)), None)
+    means = next(filter(None, map(MEANS.search, lines)), None)
     return {
         "file": file, "count": int(count), "exact": int(exact), "rounded": int(rounded), "overflowed": int(overflowed), "refused": int(refused),
         "first_overflowed": first_of(*first, *last[2:4]), "first_refused": first_of(*last[:2], *last[4:6]),
         "greatest_error": {greatest[1]: int(greatest[2]), "error": greatest[3], "ulps": greatest[4]} if greatest else None,
+        "mean_ulps": means and means[1], "rms_ulps": means and means[2],
     }
 
 
@@ -200,6 +203,7 @@ def reports(tally, path):
         (["convert", "I8F8"], lines), (["convert", "I8F8", "I4F4", "-p", "saturating", "--trim"], lines), (["convert", "U8F0"], b""),
         (["convert", "I8F8", "--from", "bits"], b"1\n70000\n"), (["convert", "I8F8", "--words", "--keep", "all"], lines + b"1,2 0.3,x"),
         (["column", "1,2", "I8F8", "--policy", "wrapping"], table), (["column", "--all", "I8F8", "-H", "-p", "saturating", "--keep"], table),
+        (["json", ".v[]", "I8F8", "-p", "saturating"], b'{"v":[0.1,1]}\n{"v":[300,"x",1]}\n1\n{"v":["-1e-30"]}\n'),
         (["column", "1", "I8F8"], b'1\n"2'), (["pack", "--from", "f64", "I8F8", "-p", "saturating"], floats),
         (["pack", "--from", "f64", "I8F8"], floats), (["repack", "I8F8", "I4F4", "-p", "wrapping"], floats),
         (["repack", "I8F8", "I4F4"], b"\0\1\0\x20\3"),
@@ -218,7 +222,7 @@ def reports(tally, path):
                 rest = [it for it in of_object.stderr.decode().splitlines() if not it.startswith("{")]
                 wanted = report_facts(name, told)
                 tally.same([without_number(json.loads(it)) for it in said], [wanted], f"{words} --report=json {name!r}")
-                kept = [it for it in told if not TALLY.search(it) and not GREATEST.search(it)]
+                kept = [it for it in told if not any(known.search(it) for known in (TALLY, GREATEST, MEANS))]
                 tally.same((of_object.stdout, of_object.returncode, rest), (of_text.stdout, of_text.returncode, kept), f"{words}: beside the report")
 
 

@@ -29,7 +29,7 @@ PLAIN = {
     "pack": "Q15", "unpack": "Q15", "repack": "Q15 Q7",
 }
 # Options whose value may be any text, and one that may occur several times.
-ANY, SEVERAL = ("output", "file"), ("field",)
+ANY, SEVERAL = ("output", "rejects", "file"), ("field",)
 # A value that each option refuses. Those with a list of words refuse any other.
 BAD = {
     "places": "65", "limit": "0", "field": "7", "width": "65", "error": "x", "whole": "9", "skip": "x", "count": "-1",
@@ -43,6 +43,7 @@ BAD_WITH = {
 }
 # A value that each option takes. Of those with a list of words it is the last.
 RIGHT = {
+    "rejects": "rejected",
     "places": "1", "limit": "1000", "field": "7:0", "width": "8", "error": "1", "whole": "2", "skip": "1", "count": "1",
     "delimiter": ";", "decimal": ",", "decimal-out": ",", "thousands": "'", "thousands-anywhere": "'", "comments": "#",
     "separators": ";", "refused": "no", "numerals": "I4F4", "name": "h", "guard": "H", "into": "b",

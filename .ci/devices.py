@@ -175,9 +175,10 @@ def full_outputs(tally, path, words, folder):
 
 def unread_inputs(tally, path, words, folder):
     """A missing input and a folder: no file is made. The other input is answered, but by `constants`, whose inputs are one."""
+    before = sorted(os.listdir(folder))
     for name, causes in (("none", (b"No such file or directory",)), (".", (b"Is a directory",))):
         ran = run(path, [*with_input(words, name), "--output=made"], cwd=folder)
-        is_right = is_failure(ran, 3, b"%s: " % name.encode(), *causes) and ran.stdout == b"" and os.listdir(folder) == ["input"]
+        is_right = is_failure(ran, 3, b"%s: " % name.encode(), *causes) and ran.stdout == b"" and sorted(os.listdir(folder)) == before
         tally.check(is_right, f"{words} {name}: {ran}, {os.listdir(folder)}")
     if words[0] not in ("bits", "show"):
         wanted = b"" if words[0] == "constants" else run(path, [*words, "input"], cwd=folder).stdout

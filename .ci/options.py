@@ -56,8 +56,10 @@ REASONS = {
     "h": "Each answer tells whether it is exact and in range, or the error.",
     "i": "Nothing is rounded, or nothing is written of a list with a refused line.",
     "j": "The answer to a refused text says why.",
-    "k": "Values of JSON are not counted.",
+    "k": "Raw words have no text that could be listed.",
 }
+# The heads of columns that would make the table too wide.
+HEADS = {"skip-blank": "blank", "comments": "comment", "refused": "token"}
 HOLES = {
     "output": {},
     "limit": {},
@@ -67,7 +69,8 @@ HOLES = {
     "words": {"a": "unpack repack", "d": "column json bits show lines enclose sort", "e": "least fit pack constants"},
     "refused": {"j": "column json", "f": "bits show lines enclose unpack", "g": "least fit pack repack constants sort"},
     "keep": {"f": "bits show lines enclose unpack", "g": "least fit pack repack constants sort"},
-    "report": {"h": "bits show lines enclose fit unpack", "i": "least constants sort", "k": "json"},
+    "report": {"h": "bits show lines enclose fit unpack", "i": "least constants sort"},
+    "rejects": {"k": "unpack repack", "j": "bits show", "g": "least fit pack constants sort"},
 }
 
 
@@ -426,8 +429,9 @@ def wrong_holes(table):
 
 def grid(table):
     """The table "option by command" of the options for inputs, and the reasons of its holes."""
-    yield f".Bl -column constants {' '.join(HOLES)} -compact"
-    yield f".It Ta {' Ta '.join(HOLES)}"
+    heads = [HEADS.get(name, name) for name in HOLES]
+    yield f".Bl -column constants {' '.join(heads)} -compact"
+    yield f".It Ta {' Ta '.join(heads)}"
     for page in table:
         if page.name not in NO_INPUT:
             yield f".It {page.name} Ta {' Ta '.join(reason(page, option) for option in HOLES)}"

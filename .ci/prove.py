@@ -27,7 +27,7 @@ from concurrent.futures import ThreadPoolExecutor, as_completed
 
 from crates import READ_BY_RUNS, TOP, above, below, files_below, keys, kit, lowest_first, read_crates, text_of, toolchain
 from store import Store
-from wrong_bodies import IN_GATE, LEFT_OUT, function_at, keep
+from wrong_bodies import IN_GATE, LEFT_OUT, function_at, keep, refusals
 
 BUILD = f"{TOP}/build"
 # What a check is likely to take, in KiB.
@@ -87,6 +87,7 @@ class Bench:
         self.crates, self.store = read_crates(top), store or Store()
         self.keys = keys(self.crates)
         self.cpu, self.lanes, self.into, self.top = cpu, lanes or processes(), into, top
+        self.anew = bool(os.environ.get("ANEW"))
 
     def kept(self, name):
         """The parts of the store's path of what is compiled of a crate, or of its statements."""
@@ -152,7 +153,7 @@ class Bench:
                     out.write("Files of it, or of a crate below it, changed while it was checked: once more.\n")
                 return False
             if is_well:
-                self.store.put(to, *self.kept(name))
+                self.store.put(to, *self.kept(name), anew=self.anew)
         return is_well
 
     def compile_all(self, names):
@@ -175,13 +176,13 @@ class Bench:
         return is_well
 
     def make(self, names):
-        """Proves these crates and those below them, and compiles what is compiled of them, unless the store has it."""
-        lacking = [it for it in names if not self.is_kept(it)]
+        """Proves these crates and those below them, and compiles what is compiled of them, unless the store has it or ANEW is set."""
+        lacking = [it for it in names if self.anew or not self.is_kept(it)]
         if not lacking:
             say("All was proved before, for these files and this toolchain.")
         libraries = [it for it in below(self.crates, lacking) if not self.crates[it].made]
         products = [it for it in lacking if self.crates[it].made]
-        is_well = all(self.is_kept(it) for it in libraries) or prove_copy(self, libraries)
+        is_well = not self.anew and all(self.is_kept(it) for it in libraries) or prove_copy(self, libraries)
         return is_well and (not products or self.compile_all(products))
 
     def hand_out(self, names):
@@ -356,7 +357,7 @@ def gate(bench, names):
             bench.adopt()
     shutil.rmtree(room, ignore_errors=True)
     if bench.top == TOP:
-        keep(said.tried)
+        keep(refusals(said.tried))
     if status or not is_same:
         say("\n".join([*said.refused, *said.others, "The gate failed (above)."] if status else
                       ["The gate passed, but files changed as it ran: nothing is kept for make build."]))

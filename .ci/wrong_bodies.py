@@ -4,9 +4,10 @@
     wrong_bodies.py try [CRATE..]     tries those of wrong-bodies/, of every crate or of these (make wrong-bodies)
     wrong_bodies.py table [LOG..]     prints a table of all of them (make wrong-bodies-table), also by these logs of rt must-fail
 
-`rt` tries the edits of a crate's must-fail/. Those of wrong-bodies/ are tried in a copy of the crates in which they take its place.
-Both ways of trying (make test, make wrong-bodies) keep what refused each edit in build/logs, for as long as the edit and the file that
-it edits stay the same.
+`rt` tries the edits of a crate's must-fail/, each by a check of its own. Those of wrong-bodies/ are tried in a copy of the crates, as
+many by one check as change bodies of different functions: a body has to do with its own contract and its own proof alone. Both ways of
+trying (make test, make wrong-bodies) keep what refused each edit in build/logs, for as long as the edit and the file that it edits stay
+the same.
 
 A row of the table names the function whose contract refuses the edit, the clause or condition, and where the check stopped: at a goal
 that is open or false, or inside a proof that was written for the right body, which shows less of the contract.
@@ -25,6 +26,8 @@ from rules import parts
 TOP = os.path.dirname(os.path.dirname(os.path.abspath(__file__)))
 KEPT = f"{TOP}/build/logs/wrong-bodies"
 IN_GATE, LEFT_OUT = "must-fail", "wrong-bodies"
+# How a line begins that is no part of a body.
+DECLARES = re.compile(r"\s*(ghost|ensures|requires|(pub(\(crate\))? )?(const|fn|struct|enum|type)\b|use|///|//!)")
 
 
 def edits_in(folder):
@@ -42,26 +45,114 @@ def crates_in_order():
         return [line.partition(":")[0].split()[0] for line in file if line.strip() and not line.startswith("#")]
 
 
-def try_left_out(crates):
-    """Tries the wrong bodies that the gate leaves out, and returns the status of `rt`."""
-    crates = crates or [it for it in crates_in_order() if any(crate == it for crate, _ in edits_in(LEFT_OUT))]
+class Edit:
+    """An edit: the file that it changes, its pairs of an old and a new text, and the functions that these stand in."""
+
+    def __init__(self, folder, path):
+        self.key, self.path = (path.split("/")[-3], os.path.basename(path)[:-5]), ""
+        with open(path, encoding="utf-8") as file:
+            self.file, self.pairs, _ = parts(file.read())
+        with open(f"{folder}/{self.file}", encoding="utf-8") as file:
+            text = file.read()
+        lines = [text.partition(old)[0].count("\n") + 1 for old, _ in self.pairs]
+        self.functions = {function_at(f"{folder}/{self.file}", line) for line in lines}
+        self.is_of_bodies = self.file.startswith("src/") and not any(DECLARES.match(old) for old, _ in self.pairs)
+
+    def is_meant(self, message):
+        """Whether a message is about one of the functions, by its place in a source or in a proof."""
+        place = re.match(r"(?:note: )?(?:\./)?(\S+?):\d+:\d+: ", message)
+        proof = re.fullmatch(r"proofs/(.*/)?(\w+)/(?:Answers|Invariants)\.antt", place[1]) if place else None
+        if proof:
+            module = self.file[len("src/") : -len(".rt")]
+            return proof[2] in self.functions and (module in ("lib", "main") or (proof[1] or "").startswith(f"{module}/"))
+        return bool(place) and place[1] == self.file and self.at(message) in self.functions
+
+    def at(self, message):
+        """The function that a message is about by the line of the source, as the edit has left it."""
+        return function_at(self.path, int(re.search(r":(\d+):", message)[1]))
+
+
+def in_groups(edits):
+    """Edits in groups, each of which is tried by one check: in a group each changes bodies of other functions, so that no edit
+    has to do with the contract or the proof of another; one that changes more than bodies is alone."""
+    left = list(edits)
+    while left:
+        group, changed = left[:1], {(left[0].file, it) for it in left[0].functions}
+        for it in left[1:] if left[0].is_of_bodies else ():
+            functions = {(it.file, name) for name in it.functions}
+            if it.is_of_bodies and not functions & changed:
+                group.append(it)
+                changed |= functions
+        yield group
+        left = [it for it in left if it not in group]
+
+
+def try_group(folder, group):
+    """Checks a crate with these edits; the first message about each, a goal before what stands in a proof; None if there is none."""
+    texts = {}
+    for it in group:
+        path = it.path = f"{folder}/{it.file}"
+        if path not in texts:
+            with open(path, encoding="utf-8") as file:
+                texts[path] = file.read()
+    edited = dict(texts)
+    for it in group:
+        for old, new in it.pairs:
+            edited[it.path] = edited[it.path].replace(old, new)
+    try:
+        write_all(edited)
+        how = {"stdout": subprocess.PIPE, "stderr": subprocess.STDOUT, "text": True, "errors": "replace", "check": False}
+        ran = subprocess.run(["rt", "check"], cwd=folder, **how)
+        told = [it for it in ran.stdout.split("\n") if re.match(r"(note: )?\S+:\d+:\d+: ", it) and ("error" in it or "not proved" in it)]
+        found = {}
+        for it in group:
+            about = told if len(group) == 1 else [message for message in told if it.is_meant(message)]
+            is_refused = ran.returncode == 1 and "logic=not-proved" in ran.stdout
+            found[it.key] = next((it for it in about if "proofs/" not in it), about[0]) if about and is_refused else None
+        return found
+    finally:
+        write_all(texts)
+
+
+def write_all(texts):
+    """Writes each text to its path."""
+    for path, text in texts.items():
+        with open(path, "w", encoding="utf-8") as file:
+            file.write(text)
+
+
+def try_all(names, folders):
+    """Tries the edits of these crates in these folders of theirs, many of a crate by one check; the status."""
+    found, missed = {}, []
     with tempfile.TemporaryDirectory(prefix="wrong-bodies-") as room:
-        shutil.copytree(f"{TOP}/crates", f"{room}/crates", ignore=shutil.ignore_patterns("out", IN_GATE))
+        shutil.copytree(f"{TOP}/crates", f"{room}/crates", ignore=shutil.ignore_patterns("out", IN_GATE, LEFT_OUT))
         for name in ("crates.txt", "HANDLES"):
             shutil.copy(f"{TOP}/{name}", room)
-        for path in glob.glob(f"{room}/crates/*/{LEFT_OUT}"):
-            os.rename(path, f"{os.path.dirname(path)}/{IN_GATE}")
-        print(f"Trying the wrong bodies that the gate leaves out, of {' '.join(crates)}", flush=True)
-        lines = []
-        how = {"stdout": subprocess.PIPE, "stderr": subprocess.STDOUT, "text": True, "errors": "replace"}
-        with subprocess.Popen(["rt", "must-fail", *crates], cwd=room, **how) as ran:
-            for line in ran.stdout:
-                print(line, end="", flush=True)
-                lines.append(line)
-    keep(lines)
-    refused = len(refusals(lines))
-    print(f"{refused} wrong bodies were refused" + (", and others were not (above)" if ran.returncode else ""))
-    return ran.returncode
+        for crate in names or crates_in_order():
+            paths = sorted(path for folder in folders for (of, _), path in edits_in(folder).items() if of == crate)
+            edits = [Edit(f"{room}/crates/{crate}", path) for path in paths]
+            said = try_crate(f"{room}/crates/{crate}", edits)
+            found |= {key: refusal(key[0], every_edit()[key], message) for key, message in said.items() if message}
+            missed += [key for key, message in said.items() if not message]
+            if edits:
+                at_goal = sum(found[it.key][1] == "at a goal" for it in edits if it.key in found)
+                print(f"{crate}: {sum(map(bool, said.values()))} of {len(edits)} wrong bodies are refused, {at_goal} at a goal", flush=True)
+    keep(found)
+    for key in missed:
+        print(f"NOT REFUSED: {'/'.join(key)}")
+    print(f"{len(found)} wrong bodies were refused" + (", and others were not (above)" if missed else ""))
+    return 1 if missed else 0
+
+
+def try_crate(folder, edits):
+    """Tries the edits of a crate; what was said of each. One of which nothing was said beside others is tried alone."""
+    said = {}
+    for group in in_groups(edits):
+        said |= try_group(folder, group)
+        for it in group if len(group) > 1 else ():
+            if not said[it.key]:
+                said |= try_group(folder, [it])
+    return said
 
 
 def function_at(path, line):
@@ -154,9 +245,9 @@ def kept():
     return found
 
 
-def keep(lines):
-    """Keeps what refused the edits that these lines of the check name."""
-    edits, found = every_edit(), kept() | refusals(lines)
+def keep(refused):
+    """Keeps what refused these edits."""
+    edits, found = every_edit(), kept() | refused
     os.makedirs(os.path.dirname(KEPT), exist_ok=True)
     with open(KEPT, "w", encoding="utf-8") as file:
         file.writelines("\t".join((*key, sum_of(key[0], edits[key]), *what)) + "\n" for key, what in sorted(found.items()))
@@ -183,7 +274,7 @@ def table(logs):
 def main():
     verb, given = sys.argv[1:2], sys.argv[2:]
     if verb == ["try"]:
-        return try_left_out(given)
+        return try_all(given, [LEFT_OUT])
     if verb == ["table"]:
         table(given)
         return 0

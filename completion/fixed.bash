@@ -5,13 +5,13 @@ _fixed_formats='I16F16 U16F16 I8F8 U8F8 I32F32 U32F32 I1F15 I1F31 I4F4 U0F8'
 # The options of a command.
 _fixed_options() {
   case $1 in
-    convert) echo '--from --radix --policy --mode --target-mode --print --places --places-mode --trim --skip-blank --comments --limit --words --separators --refused --keep --report --output' ;;
-    column) echo '--from --radix --policy --mode --target-mode --print --places --places-mode --delimiter --all --header --skip --trim --decimal --decimal-out --thousands --thousands-anywhere --empty --into --keep --limit --report --output' ;;
-    json) echo '--from --radix --policy --mode --target-mode --print --places --places-mode --trim --skip-blank --comments --keep --limit --output' ;;
+    convert) echo '--from --radix --policy --mode --target-mode --print --places --places-mode --trim --skip-blank --comments --limit --words --separators --refused --keep --report --rejects --output' ;;
+    column) echo '--from --radix --policy --mode --target-mode --print --places --places-mode --delimiter --all --header --skip --trim --decimal --decimal-out --thousands --thousands-anywhere --empty --into --keep --limit --report --rejects --output' ;;
+    json) echo '--from --radix --policy --mode --target-mode --print --places --places-mode --trim --skip-blank --comments --keep --limit --report --rejects --output' ;;
     bits) echo '--radix --field --swap --json --file --trim --skip-blank --comments --limit --output' ;;
     show) echo '--radix --policy --mode --json --file --trim --skip-blank --comments --limit --output' ;;
     format) echo '--json --output' ;;
-    lines | enclose) echo '--trim --skip-blank --comments --limit --output' ;;
+    lines | enclose) echo '--trim --skip-blank --comments --limit --rejects --output' ;;
     least) echo '--why --trim --skip-blank --comments --limit --output' ;;
     fit) echo '--width --error --any --whole --beyond --signed --why --range --radix --trim --skip-blank --comments --limit --output' ;;
     pack) echo '--from --endian --radix --policy --mode --trim --skip-blank --comments --limit --report --output' ;;
@@ -33,7 +33,7 @@ _fixed_value() {
       *:--decimal | *:--decimal-out | *:--thousands | *:--thousands-anywhere | *:--into | *:--field | \
       *:--error | *:-e | *:--whole | *:--count | *:--guard | *:--name) echo '@any' ;;
     convert:--keep) echo 'text all' ;;
-    *:--output | *:-o | *:--file) echo '@files' ;;
+    *:--rejects | *:--output | *:-o | *:--file) echo '@files' ;;
     column:--print | json:--print | unpack:--print) echo 'text bits hex readmemh value all' ;;
     *:--empty) echo 'fault keep 0' ;;
     *:--width | *:-w) echo '8 16 32 64' ;;

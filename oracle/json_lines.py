@@ -15,6 +15,7 @@ from convert import BLANKS as SPACES
 from convert import word_of
 from harness import main, run
 from reference import WIDTHS, format_named, numeral_for
+from show import reject_line, run_with_rejects, shown
 
 LONGEST = 1_048_576
 DEEPEST = 128
@@ -169,7 +170,7 @@ def told(refused):
         return b""
     number, (place, text, cause) = refused[0]
     byte = b", byte %d" % place if place else b""
-    return b"fixed: lines refused: %d, the first in line %d%s, '%s': %s" % (len(refused), number, byte, column.shown(text), cause)
+    return b"fixed: lines refused: %d, the first in line %d%s, '%s': %s" % (len(refused), number, byte, shown(text), cause)
 
 
 # ---- seeded lines
@@ -264,6 +265,14 @@ def line_for(pick, options, steps):
     return line
 
 
+def compare_rejects(listed, refused, command, tally):
+    """Compares the lines of rejects; where a line stops being JSON is not worked out here."""
+    tally.same(len(listed), len(refused), (command, "how many lines of rejects"))
+    for found, (number, (place, text, cause)) in zip(listed, refused):
+        byte = b"%d" % (place or 1) if cause != b"not JSON" else found.split(b"\t")[1]
+        tally.same(found, reject_line(number, int(byte), text[:LONGEST], cause)[:-1], command)
+
+
 def compare(path, pick, given, tally):
     for _ in range(max(1, given.count // LINES)):
         options, words = options_for(pick)
@@ -275,12 +284,13 @@ def compare(path, pick, given, tally):
         refused = [(number, why) for number, (_, why) in enumerate(wanted, 1) if why]
         end = pick.choice((b"\n", b""))
         command = ["json", *words, where, word_of(options["source"]), word_of(options["target"])]
-        found = run(path, command, b"\n".join(lines) + end)
+        found, listed = run_with_rejects(path, command, b"\n".join(lines) + end)
         last = lines[-1] or end
         texts = [text for text, _ in wanted] if last else [text for text, _ in wanted[:-1]]
         refused = refused if last else [it for it in refused if it[0] < len(lines)]
         tally.all_same(found.stdout.split(b"\n")[:-1], texts, [(where, line) for line in lines[: len(texts)]])
         tally.same((found.returncode, found.stderr[: len(told(refused))]), (1 if refused else 0, told(refused)), command)
+        compare_rejects(listed.split(b"\n")[:-1], refused, command, tally)
         for (text, why), line in zip(wanted, lines):
             tally.check(bool(why) or text == line or text_of(text) is not None, f"{line!r}: an answer is no JSON: {text!r}", 0)
     malformed(path, tally)
