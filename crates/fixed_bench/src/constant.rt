@@ -5,10 +5,9 @@ use fixed_steps::Steps;
 use line_engine::{MAX_LIMIT, Output, Status};
 use run_engine::{LineRule, Rule, run_lines};
 use std::alloc::Global;
-use std::convert::Infallible;
 use std::sync::ledger::Ledger;
 
-/// Answers each line with one text.
+/// Answers each line with one text, and refuses none.
 #[derive(Clone, Copy)]
 pub struct ConstantRule;
 
@@ -18,7 +17,7 @@ impl<L: Ledger> Rule<L> for ConstantRule {
 
     type Note = ();
 
-    type Cause = Infallible;
+    type Cause = ();
 
     const PER_BYTE: u64 = 0;
 
@@ -36,21 +35,14 @@ impl<L: Ledger> Rule<L> for ConstantRule {
 
     ghost Notes = { λ rule line note. Unit {0} };
 
-    ghost refusal = { λ rule line never. [] };
+    ghost refusal = { λ rule line cause. [] };
 
-    fn answer(
-        &self,
-        _line: &[u8],
-        out: &mut Output,
-        _steps: &mut Steps<L>,
-    ) -> Result<(), Infallible> {
+    fn answer(&self, _line: &[u8], out: &mut Output, _steps: &mut Steps<L>) -> Result<(), ()> {
         out.push_bytes(b"0 0 fits");
         Ok(())
     }
 
-    fn push_refusal(&self, _line: &[u8], never: &Infallible, _out: &mut Output) {
-        match *never {}
-    }
+    fn push_refusal(&self, _line: &[u8], _cause: &(), _out: &mut Output) {}
 
     ghost room_law = { constant_room };
 
