@@ -24,7 +24,7 @@ struct Case {
 }
 
 /// Returns the case of numerals in a radix.
-fn case(
+fn case_of(
     radix: Radix,
     format: Format,
     mode: ReadMode,
@@ -84,119 +84,113 @@ fn means_are_rounded_to_six_digits(rt: HostRuntime) {
     let u16f8 = Format::of(false, 16, 8);
     let i64f63 = Format::of(true, 64, 63);
     let cases = [
-        case(
+        case_of(
             Radix::Dec,
             i16f8,
             ReadMode::NearestEven,
             "0.1 0.2 0.3",
             Some((false, 133333, 6, 282843, 6)),
         ),
-        case(
+        case_of(
             Radix::Dec,
             u8f0,
             ReadMode::NearestEven,
             "0.5 1.5 2.5 -0.5",
             Some((false, 0, 0, 500000, 6)),
         ),
-        case(
-            Radix::Dec,
-            u8f0,
-            ReadMode::NearestEven,
-            "x 256",
-            None,
-        ),
-        case(
+        case_of(Radix::Dec, u8f0, ReadMode::NearestEven, "x 256", None),
+        case_of(
             Radix::Dec,
             i8f4,
             ReadMode::NearestEven,
             "1 -2.5 0",
             Some((false, 0, 0, 0, 0)),
         ),
-        case(
+        case_of(
             Radix::Dec,
             i8f4,
             ReadMode::Floor,
             "0.1 -0.1 7.99",
             Some((true, 613333, 6, 639166, 6)),
         ),
-        case(
+        case_of(
             Radix::Dec,
             i8f4,
             ReadMode::Ceil,
             "0.1 -0.1 1e-30",
             Some((false, 666667, 6, 711805, 6)),
         ),
-        case(
+        case_of(
             Radix::Dec,
             i8f4,
             ReadMode::TowardsZero,
             "0.1 -0.1 99",
             Some((false, 0, 0, 600000, 6)),
         ),
-        case(
+        case_of(
             Radix::Dec,
             u64f64,
             ReadMode::NearestEven,
             "0.12345678901234567890123 1e-40 0.1",
             Some((false, 505645, 7, 271819, 6)),
         ),
-        case(
+        case_of(
             Radix::Dec,
             u64f0,
             ReadMode::NearestEven,
             "18446744073709551615.4999999999999999999999999999999999999999999999999999999999",
             Some((true, 500000, 6, 500000, 6)),
         ),
-        case(
+        case_of(
             Radix::Dec,
             u64f0,
             ReadMode::NearestEven,
             "0.5000000000000000000000000000000000001 1",
             Some((false, 250000, 6, 353553, 6)),
         ),
-        case(
+        case_of(
             Radix::Dec,
             u8f0,
             ReadMode::NearestEven,
             "1e-18 2e-18 0",
             Some((true, 100000, 23, 129099, 23)),
         ),
-        case(
+        case_of(
             Radix::Dec,
             u8f0,
             ReadMode::NearestEven,
             "1e-19",
             Some((false, 0, 0, 0, 0)),
         ),
-        case(
+        case_of(
             Radix::Dec,
             u8f0,
             ReadMode::NearestEven,
             "0.000000000000000001 1 1 1 1 1 1",
             Some((true, 142857, 24, 377964, 24)),
         ),
-        case(
+        case_of(
             Radix::Hex,
             i32f16,
             ReadMode::NearestEven,
             "0.12345 -7f.fffff8 1p-40 0.0000000000000000000000000000000000001",
             Some((true, 859375, 7, 157029, 6)),
         ),
-        case(
+        case_of(
             Radix::Bin,
             u8f3,
             ReadMode::NearestEven,
             "1.0101 10.00011",
             Some((true, 125000, 6, 395285, 6)),
         ),
-        case(
+        case_of(
             Radix::Oct,
             u16f8,
             ReadMode::NearestEven,
             "0.1234567 7.0004",
             Some((true, 228882, 7, 228262, 6)),
         ),
-        case(
+        case_of(
             Radix::Dec,
             i64f63,
             ReadMode::NearestEven,
