@@ -415,7 +415,9 @@ fn run_reader<R: Read + Drop, L: Ledger>(
             run_task_on(rt, task, limit, *form, file, reader, output, rejects, steps)
         }
         Job::Words { rule, report } => {
-            run_words_on(rt, rule, limit, *report, file, reader, output, rejects, steps)
+            run_words_on(
+                rt, rule, limit, *report, file, reader, output, rejects, steps,
+            )
         }
         Job::Amounts(lines) => {
             amounts::run_on(rt, lines, limit, file, reader, output, rejects, steps)

@@ -154,7 +154,17 @@ pub fn run_amounts_on<I: Read + Drop, L: Ledger>(
     let failure = Failure::new(None);
     let is_decimal = has_amount_point(conversion.rule.print);
     let ended = run_fields(
-        rt, conversion, is_decimal, &rule, (), limit, reader, output, rejects, &failure, steps,
+        rt,
+        conversion,
+        is_decimal,
+        &rule,
+        (),
+        limit,
+        reader,
+        output,
+        rejects,
+        &failure,
+        steps,
     );
     let known = Known {
         conversion,

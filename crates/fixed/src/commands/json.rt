@@ -289,7 +289,15 @@ fn run_rule<A: FieldRule<L>, W: FieldWatch<A, L> + Drop, R: Read + Drop, L: Ledg
     let writer = mem::replace(output, Output::Nowhere);
     let mut sink = answer_sink(writer, rejects.failure, failure);
     let observer = RefusedFields::new(rejects.take(), watch);
-    let end = run_json(rt.alloc(), limit, &task, observer, &mut source, &mut sink, steps);
+    let end = run_json(
+        rt.alloc(),
+        limit,
+        &task,
+        observer,
+        &mut source,
+        &mut sink,
+        steps,
+    );
     let fields = end.observer;
     let lines = sink.lines();
     *output = sink.into_writer().writer.writer;
@@ -358,7 +366,16 @@ pub fn run_on<R: Read + Drop, L: Ledger>(
                 form: &job.spelling,
             };
             let end = run_rule(
-                rt, job, &numerals, limit, (), reader, output, rejects, &failure, steps,
+                rt,
+                job,
+                &numerals,
+                limit,
+                (),
+                reader,
+                output,
+                rejects,
+                &failure,
+                steps,
             );
             let failure = rejects.failure_or(&failure);
             report(rt, job, file, &end, None, failure, steps);
