@@ -1,7 +1,8 @@
 //! The greatest error of a sequence of numerals.
 
-ghost use Rattle.std.specs.Prelude.{◌≡◌, ◌⊎◌, ◌≤◌, ◌+◌, ◌*◌, ◌++◌, ◌∷◌, [], List, OnErr, OnOk, length, true};
-ghost use Rattle.fixed_error.specs.ErrorSize.{HasNoGreaterError, IsReadWithin};
+ghost use Rattle.std.specs.Prelude.{◌≡◌, ◌⊎◌, ◌<◌, ◌≤◌, ◌+◌, ◌*◌, ◌++◌, ◌∷◌, [], List, OnErr, OnOk, length, true};
+ghost use Rattle.std.specs.Prelude.{vec_capacity};
+ghost use Rattle.fixed_error.specs.ErrorSize.{HasGreaterError, HasNoGreaterError, IsReadWithin};
 ghost use Rattle.fixed_error.specs.Greatest.{Entry, HasGreatest, HasSomeGreatest};
 ghost use Rattle.fixed_error.specs.Inner.Greatest.{IsGreatestSoFar};
 
@@ -87,7 +88,8 @@ impl GreatestError {
     ///
     /// # Errors
     ///
-    /// There is no memory for it. The kept numeral is then lost.
+    /// There is no memory for it: it has a greater error than those so far, and more bytes than there is room for. The
+    /// kept numeral is then lost.
     pub fn add<L: Ledger>(
         &mut self,
         numeral: &[u8],
@@ -111,6 +113,9 @@ impl GreatestError {
         ensures kept { OnOk result
             ((self.new.numeral.items ≡ self.old.numeral.items) ⊎ (self.new.numeral.items ≡ numeral.now)) }
         ensures lost { OnErr result (self.new.numeral.items ≡ []) }
+        ensures greater { OnErr result (self.old.is_some ≡ true → HasGreaterError self.old.mode self.old.radix
+            self.old.frac numeral.now self.old.numeral.items) }
+        ensures no_room { OnErr result (vec_capacity self.old.numeral < length numeral.now) }
         ensures cost { steps.new ≤ steps.old + 20 * (length numeral.now + length self.old.numeral.items) + 792 }
     {
         if self.is_greater(numeral, steps) {

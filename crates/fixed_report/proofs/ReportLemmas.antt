@@ -19,7 +19,7 @@ use Rattle.fixed_numeral.specs.declared.radix.Radix.{Radix}
 use Rattle.fixed_read.proofs.Public.{read_unique}
 use Rattle.fixed_read.specs.Reading.{IsReadNumber}
 use Rattle.fixed_report.specs.Laws.{AreSame, GreatestHasBits, ReportIsTheOne}
-use Rattle.fixed_report.specs.Report.{AreIn, HasReport, IsIn, IsLostBy, Kept, longest_kept}
+use Rattle.fixed_report.specs.Report.{AreIn, HasReport, IsIn, IsLostBy, Kept, NeedsMemory, longest_kept}
 use Rattle.fixed_report.specs.declared.report.Lost.{Lost}
 use Rattle.fixed_report.specs.declared.report.Lost.TheVariants.{NoMemory, TooLong}
 use Rattle.fixed_report.specs.Text.{greatest_text}
@@ -169,6 +169,7 @@ lost_out inside k numeral same h =
       long = λ none is more. absurd (in_or_not k.mode k.radix k.format numeral is out);
       short = λ none few e. none_some k.lost TooLong none e;
       out = λ none _. none;
+      memory = λ none e. absurd (none_some k.lost NoMemory none e);
     }
 
 -- a numeral that is longer than `longest_kept` loses the report
@@ -179,17 +180,20 @@ lost_long inside k numeral same none is more =
       long = λ _ _ _. refl;
       short = λ _ few _. omega (arith, few, more);
       out = λ _ out. absurd (in_or_not inside.mode inside.radix inside.format numeral is out);
+      memory = λ _ e. absurd (not_long (sym e));
     } in
     subst (λ (x : Kept). IsLostBy x numeral (Some TooLong)) same here
 
 -- a shorter numeral loses it only if memory is lacking
-pub lost_short : (inside k : Kept) (numeral : List ℕ) (lost : Option Lost) → inside ≡ k → inside.lost ≡ None → IsIn inside.mode inside.radix inside.format numeral → length numeral ≤ longest_kept → (lost ≡ Some TooLong → ⊥) → IsLostBy k numeral lost
-lost_short inside k numeral lost same none is few other =
+pub lost_short : (inside k : Kept) (numeral : List ℕ) (lost : Option Lost) → inside ≡ k → inside.lost ≡ None → IsIn inside.mode inside.radix inside.format numeral → length numeral ≤ longest_kept → (lost ≡ Some TooLong → ⊥)
+    → NeedsMemory inside.greatest numeral → IsLostBy k numeral lost
+lost_short inside k numeral lost same none is few other needs =
     let here : IsLostBy inside numeral lost = record {
       stays = λ why e. absurd (none_some inside.lost why none e);
       long = λ _ _ more. absurd (let no : ⊥ = omega (arith, few, more) in no);
       short = λ _ _ e. other e;
       out = λ _ out. absurd (in_or_not inside.mode inside.radix inside.format numeral is out);
+      memory = λ _ _. needs;
     } in
     subst (λ (x : Kept). IsLostBy x numeral lost) same here
 

@@ -1,16 +1,18 @@
 -- The numeral with the greatest error in a format, among numerals that come one after another.
 use Rattle.std.specs.Prelude.{◌≡◌, ◌⊎◌, ◌≤◌, ◌<◌, ◌-◌, ◌^◌, ℕ, ℤ, Bool, List, [], ◌∷◌, length, Option, None, Some}
+use Rattle.std.specs.Prelude.{true, vec_capacity}
 use Rattle.fixed_bits.specs.Formats.{FormatParts}
 use Rattle.fixed_bits.specs.declared.format.Policy.TheVariants.{Checked}
 use Rattle.fixed_bits.specs.declared.mode.ReadMode.{ReadMode}
 use Rattle.fixed_error.specs.Cut.{IsCutError}
+use Rattle.fixed_error.specs.ErrorSize.{HasGreaterError}
 use Rattle.fixed_error.specs.Greatest.{Entry, HasGreatest, HasSomeGreatest, IsKept}
 use Rattle.fixed_error.specs.declared.cut.CutError.{CutError}
 use Rattle.fixed_error.specs.declared.greatest.GreatestError.{GreatestError}
 use Rattle.fixed_numeral.specs.declared.radix.Radix.{Radix}
 use Rattle.fixed_report.specs.Sums.{AreSums, HasSomeSums}
 use Rattle.fixed_report.specs.declared.report.Lost.{Lost}
-use Rattle.fixed_report.specs.declared.report.Lost.TheVariants.{TooLong}
+use Rattle.fixed_report.specs.declared.report.Lost.TheVariants.{NoMemory, TooLong}
 use Rattle.fixed_report.specs.declared.sums.ErrorSums.{ErrorSums}
 use Rattle.fixed_show.specs.ShowBlock.{HasNoBits, IsReadAs}
 
@@ -77,11 +79,17 @@ pub record IsSound (k : Kept) : Type 0 where
   pub sums : HasSomeSums k.sums
   pub short : length k.greatest.numeral.items ≤ longest_kept
 
+-- memory is needed to keep the numeral: it has a greater error than those so far, and more bytes than there is room for
+pub record NeedsMemory (g : GreatestError) (numeral : List ℕ) : Type 0 where
+  pub greater : g.is_some ≡ true → HasGreaterError g.mode g.radix g.frac numeral g.numeral.items
+  pub no_room : vec_capacity g.numeral < length numeral
+
 -- why the report is lost after one more numeral: an earlier reason stays; a numeral in range that is too long to keep
--- is a reason; a numeral without bits is none; otherwise only lack of memory is one
+-- is a reason; a numeral without bits is none; otherwise only lack of memory is one, where memory is needed
 pub record IsLostBy (k : Kept) (numeral : List ℕ) (lost : Option Lost) : Type 0 where
   pub stays : (why : Lost) → k.lost ≡ Some why → lost ≡ Some why
   pub long : k.lost ≡ None → IsIn k.mode k.radix k.format numeral → longest_kept < length numeral
       → lost ≡ Some TooLong
   pub short : k.lost ≡ None → length numeral ≤ longest_kept → ¬ (lost ≡ Some TooLong)
   pub out : k.lost ≡ None → HasNoBits k.mode k.radix numeral k.format Checked → lost ≡ None
+  pub memory : k.lost ≡ None → lost ≡ Some NoMemory → NeedsMemory k.greatest numeral

@@ -5,7 +5,7 @@ use Rattle.fixed_error.specs.ErrorSize.{HasSteps}
 use Rattle.fixed_error.specs.Greatest.{Entry}
 use Rattle.fixed_report.proofs.ReportLemmas.{kept_in, kept_out, kept_short, lost_long, lost_out, lost_short, none_of, not_long}
 use Rattle.fixed_report.proofs.SumLemmas.{sums_in, sums_out}
-use Rattle.fixed_report.specs.Report.{Kept, longest_kept}
+use Rattle.fixed_report.specs.Report.{Kept, NeedsMemory, longest_kept}
 use Rattle.fixed_report.specs.declared.report.Lost.TheVariants.{NoMemory}
 use Rattle.fixed_report.proofs.report.ErrorReport.add.Goals as goal
 
@@ -67,4 +67,5 @@ returns-in-Err-clause-lost g c =
     let inside : Kept = record { radix = c.self.inside.radix; format = c.self.inside.format; mode = c.self.inside.mode; greatest = c.self.inside.greatest; sums = c.self.inside.sums; lost = c.self.inside.lost } in
     let none : c.self.inside.lost ≡ None = none_of c.self.inside.lost (grind (arith, common_steps, c.is_some.ensures, c.if-is_some.false)) in
     let few : length c.args.numeral.now ≤ longest_kept = omega (arith, c.if-numeral-gt-LONGEST.false) in
-    lost_short inside c.args.self.now c.args.numeral.now (Some NoMemory) c.self.view_is none c.in-Some.ensures.in_range few not_long
+    let needs : NeedsMemory c.self.inside.greatest c.args.numeral.now = record { greater = c.in-Err.ensures.greater; no_room = c.in-Err.ensures.no_room } in
+    lost_short inside c.args.self.now c.args.numeral.now (Some NoMemory) c.self.view_is none c.in-Some.ensures.in_range few not_long needs
