@@ -1,31 +1,42 @@
 -- Words converted one byte after the other.
-use Rattle.std.proofs.Common.{◌≡◌, ◌==◌, ◌+◌, ◌∙◌, ◌⊎◌, ◌||◌, ◌<◌, ◌≤◌, ℕ, zero, suc, inl, inr, Option, None, Some, take, true≢false, length-append, Bool, true, false, List, [], ◌∷◌, ◌++◌, length, nat_le, refl, sym, ap, subst, arith, append-nil, append_assoc, ⊎_elim}
+use Rattle.std.proofs.Common.{◌≡◌, ◌==◌, ◌+◌, ◌∙◌, ◌||◌, ◌<◌, ◌≤◌, ℕ, zero, suc, Option, None, Some, Result, Ok, Err, if◌then◌else◌, take, true≢false, length-append, Bool, true, false, List, [], ◌∷◌, ◌++◌, length, nat_le, refl, sym, ap, subst, arith, append-nil, append_assoc, ⊎_elim}
 use Rattle.std.proofs.lemmas.Bool.{cases_lt}
+use Rattle.std.proofs.lemmas.List.{length-take, take_all}
 use Rattle.std.proofs.lemmas.Bool.Decides.{nat_tests}
 use Rattle.std.proofs.KnownBytes.{Appends-nil}
 use Rattle.line_engine.specs.AnswerText.{AnswerText}
-use Rattle.line_engine.specs.Output.{AppendsAnswer}
 use Rattle.run_engine.specs.Machines.{BreaksAmong, Goes, going, finished}
 use Rattle.run_engine.specs.Seen.{Breaks, Moment, Puts, Seen}
 use Rattle.run_engine.specs.Pieces.{HasNone}
 use Rattle.fixed_command.specs.Convert.{IsReply}
+use Rattle.fixed_command.specs.Message.{message_text}
+use Rattle.fixed_command.specs.declared.message.Message.{Message}
 use Rattle.fixed_command.specs.Lemmas.ReplyLemmas.{asking_longer, long_reply, reply_one}
 use Rattle.fixed_respell.specs.Answer.{fault_message}
 use Rattle.fixed_respell.specs.Language.{fault_answer}
 use Rattle.fixed_respell.specs.LineWords.{longest_line}
 use Rattle.fixed_respell.specs.declared.fault.LineFault.TheVariants.{LineTooLong}
-use Rattle.fixed_command.specs.Watched.{kept_bytes}
-use Rattle.fixed_words.specs.Inner.Progress.{AddsByte, EndsBy, EndsWord, Passes, TakesByte}
-use Rattle.fixed_words.specs.Noted.{IsAtSamePlace, IsFirst, IsFirstAfter, IsRefusal, Spot, after_byte, origin, refused_after, refused_in, spot_after, spot_of}
-use Rattle.fixed_words.specs.Run.{Ends, GoesOn, IsKept, MakesBy, is_piece, last_word}
-use Rattle.fixed_words.specs.Words.{AreEnded, Ended, HasNoSeparator, IsEnded, IsWordReply, IsWorded, answer_of, any_refused, bytes_of, is_left, is_refused, is_separator, longest_left, shown, written_of}
+use Rattle.fixed_words.specs.Inner.Progress.{AddsByte, EndsBy, EndsWord, IsAtSamePlace, Passes, TakesByte, TellsIfEnded, start_of}
+use Rattle.fixed_report.specs.Report.{Kept}
+use Rattle.fixed_command.specs.Observed.{ErrorAddedIf}
+use Rattle.fixed_command.specs.Outcome.{has_error, noted}
+use Rattle.fixed_command.specs.declared.convert.Settings.{Settings}
+use Rattle.fixed_command.specs.declared.outcome.Outcome.{Outcome}
+use Rattle.fixed_command.specs.declared.outcome.Tally.{Tally}
+use Rattle.fixed_words.specs.Told.{Counts, NotesEnding, NotesWord, PutsReject, Spot, TellsEnding, TellsWord, TellsWords, Told, after_byte, origin, spot_after, spot_of, told_by, told_of}
+use Rattle.line_rejects.specs.Rejects.{Sight}
+use Rattle.line_rejects.specs.declared.rejects.Rejects.{Rejects}
+use Rattle.fixed_command.specs.Rejects.{name_of}
+use Rattle.std.specs.Prelude.{option_map}
+use Rattle.run_engine.specs.Reply as reply
+use Rattle.fixed_words.specs.Run.{Ends, GoesOn, MakesBy, is_piece, last_word}
+use Rattle.fixed_words.specs.Words.{AreEnded, Ended, HasNoSeparator, IsEnded, IsEnding, IsWordReply, answer_of, any_refused, bytes_of, is_left, is_refused, is_separator, kept_word, longest_left, shown, written_of}
 use Rattle.fixed_words.specs.declared.rule.Ending.{Ending}
 use Rattle.fixed_words.specs.declared.rule.Ending.TheVariants.{Converted, Left, Refused}
 use Rattle.fixed_words.specs.declared.rule.Leaving.{Leaving}
 use Rattle.fixed_words.specs.declared.rule.Leaving.TheVariants.{Everything, NoNumerals, Nothing}
 use Rattle.fixed_words.specs.declared.rule.WordRule.{WordRule}
 use Rattle.fixed_words.specs.declared.splitter.WordBytes.{WordBytes}
-use Rattle.fixed_words.specs.declared.splitter.WordRefusal.{WordRefusal}
 use Rattle.fixed_words.specs.declared.splitter.Words.{Words}
 
 -- ---- one more word
@@ -58,17 +69,20 @@ unbroken_more others [] b h k = (k, tt)
 unbroken_more others (c ∷ cs) b h k = (h.0, unbroken_more others cs b h.1 k)
 
 -- ---- the kept bytes of a word
-within : (word kept : List ℕ) → length kept < longest_line → IsKept word kept → length word ≤ longest_line
-within word kept room k = ⊎_elim
-    (λ (less : longest_line < length word). let full : longest_line ≤ length kept = k.full (omega (arith, less)) in absurd (omega (arith, full, room)))
-    (λ (most : length word ≤ longest_line). most)
-    (cases_lt longest_line (length word))
+-- all of it, or as many bytes as a line may have
+pub record IsKept (word kept : List ℕ) : Type 0 where
+  pub whole : length word ≤ longest_line → kept ≡ word
+  pub full : longest_line ≤ length word → longest_line ≤ length kept
 
-past : (word kept : List ℕ) → longest_line ≤ length kept → IsKept word kept → longest_line ≤ length word
-past word kept full k = ⊎_elim
-    (λ (less : length word < longest_line). let same : kept ≡ word = k.whole (omega (arith, less)) in absurd (omega (arith, less, full, ap length same)))
-    (λ (more : longest_line ≤ length word). more)
-    (cases_lt (length word) longest_line)
+kept_whole : (n : ℕ) (word kept : List ℕ) → kept ≡ take n word → length word ≤ n → kept ≡ word
+kept_whole n word kept is short = is ∙ take_all n word short
+
+kept_full : (n : ℕ) (word kept : List ℕ) → kept ≡ take n word → n ≤ length word → n ≤ length kept
+kept_full n word kept is many = omega (arith, length-take n word, ap length is, many)
+
+is_kept : (word kept : List ℕ) → kept ≡ kept_word word → IsKept word kept
+unfolding kept_word
+is_kept word kept is = record { whole = kept_whole longest_line word kept is; full = kept_full longest_line word kept is }
 
 -- ---- the kept bytes have the answer of the word
 -- a word that is not empty has a reply, and its answer follows from the reply
@@ -112,11 +126,14 @@ long_kept s word kept answer many full h =
     let is : answer ≡ token_of s = k.is ∙ (ap (answer_of s kept) same ∙ long_answer s kept full) in
     of_answer s word answer (omega (arith, many)) (record { reply = fault; replied = long s word many; is = is ∙ sym (long_answer s word many) })
 
-pub reply_kept : (s : WordRule) (word kept : List ℕ) (reply : AnswerText) → IsKept word kept → IsWordReply s kept reply → IsWordReply s word reply
-reply_kept s word kept reply k h = ⊎_elim
+reply_by : (s : WordRule) (word kept : List ℕ) (reply : AnswerText) → IsKept word kept → IsWordReply s kept reply → IsWordReply s word reply
+reply_by s word kept reply k h = ⊎_elim
     (λ (less : longest_line < length word). long_kept s word kept reply (omega (arith, less)) (k.full (omega (arith, less))) h)
     (λ (most : length word ≤ longest_line). subst (λ w. IsWordReply s w reply) (k.whole most) h)
     (cases_lt longest_line (length word))
+
+pub reply_kept : (s : WordRule) (word kept : List ℕ) (reply : AnswerText) → kept ≡ kept_word word → IsWordReply s kept reply → IsWordReply s word reply
+reply_kept s word kept reply is h = reply_by s word kept reply (is_kept word kept is) h
 
 -- ---- the bytes of a word that are kept
 take_more : (n : ℕ) (a b : List ℕ) → n ≤ length a → take n (a ++ b) ≡ take n a
@@ -124,25 +141,32 @@ take_more zero a b most = refl
 take_more (suc n) [] b most = absurd (omega (arith, most))
 take_more (suc n) (x ∷ xs) b most = ap (λ l. x ∷ l) (take_more n xs b (omega (arith, most)))
 
+take_none : (n : ℕ) (none : List ℕ) → none ≡ [] → take n none ≡ none
+take_none n none is = take_all n none (omega (arith, ap length is))
+
+pub nothing_kept : kept_word [] ≡ []
+unfolding kept_word
+nothing_kept = take_none longest_line [] refl
+
+more_by : (n : ℕ) (word kept : List ℕ) (b : ℕ) → length kept < n → kept ≡ take n word → kept ++ b ∷ [] ≡ take n (word ++ b ∷ [])
+more_by n word kept b room is =
+    let short : length word < n = omega (arith, length-take n word, ap length is, room) in
+    ap (λ w. w ++ b ∷ []) (is ∙ take_all n word (omega (arith, short))) ∙ sym (take_all n (word ++ b ∷ []) (omega (arith, length-append word (b ∷ []), short)))
+
+none_by : (n : ℕ) (word kept : List ℕ) (b : ℕ) → n ≤ length kept → kept ≡ take n word → kept ≡ take n (word ++ b ∷ [])
+none_by n word kept b full is =
+    let many : n ≤ length word = omega (arith, length-take n word, ap length is, full) in
+    is ∙ sym (take_more n word (b ∷ []) many)
+
 -- a byte is kept while there is room
-pub keep_more : (word kept : List ℕ) (b : ℕ) → length kept < longest_line → IsKept word kept → IsKept (word ++ b ∷ []) (kept ++ b ∷ [])
-keep_more word kept b room k =
-    let same : kept ≡ word = k.whole (within word kept room k) in
-    record {
-      whole = λ _. ap (λ w. w ++ b ∷ []) same;
-      full = λ many. subst (λ w. longest_line ≤ length (w ++ b ∷ [])) (sym same) many;
-      first = ap (λ w. take kept_bytes (w ++ b ∷ [])) same;
-    }
+pub keep_more : (word kept : List ℕ) (b : ℕ) → length kept < longest_line → kept ≡ kept_word word → kept ++ b ∷ [] ≡ kept_word (word ++ b ∷ [])
+unfolding kept_word
+keep_more word kept b room is = more_by longest_line word kept b room is
 
 -- and dropped after that
-pub keep_none : (word kept : List ℕ) (b : ℕ) → longest_line ≤ length kept → IsKept word kept → IsKept (word ++ b ∷ []) kept
-keep_none word kept b full k =
-    let many : longest_line ≤ length word = past word kept full k in
-    record {
-      whole = λ less. absurd (omega (arith, less, many, length-append word (b ∷ [])));
-      full = λ _. full;
-      first = k.first ∙ sym (take_more kept_bytes word (b ∷ []) (omega (arith, many)));
-    }
+pub keep_none : (word kept : List ℕ) (b : ℕ) → longest_line ≤ length kept → kept ≡ kept_word word → kept ≡ kept_word (word ++ b ∷ [])
+unfolding kept_word
+keep_none word kept b full is = none_by longest_line word kept b full is
 
 -- ---- positions
 spot_append : (at : Spot) (a b : List ℕ) → spot_after at (a ++ b) ≡ spot_after (spot_after at a) b
@@ -167,73 +191,109 @@ unfolding spot_after
 line_within others at [] none = refl
 line_within others at (b ∷ bytes) none = line_within others (after_byte at b) bytes none.1 ∙ rw (no_newline others b none.0) refl
 
--- ---- the counts of refused words
-count_more : (n : ℕ) (es : List Ended) (e : Ended) → refused_in n (es ++ e ∷ []) ≡ refused_after e.reply.fault (refused_in n es)
-unfolding refused_in
-count_more n [] e = refl
-count_more n (c ∷ cs) e = count_more (refused_after c.reply.fault n) cs e
-
-after_some : (fault : Bool) (n : ℕ) → 0 < n → 0 < refused_after fault n
-after_some true n some = omega (arith, some)
-after_some false n some = some
-
-some_stay : (n : ℕ) (es : List Ended) → 0 < n → 0 < refused_in n es
-unfolding refused_in
-some_stay n [] some = some
-some_stay n (c ∷ cs) some = some_stay (refused_after c.reply.fault n) cs (after_some c.reply.fault n some)
-
-one_some : (fault : Bool) → fault ≡ true → 0 < refused_after fault 0
-one_some true is = omega arith
-one_some false is = absurd (true≢false (sym is))
-
-first_some : (c : Ended) (cs : List Ended) → c.reply.fault ≡ true → 0 < refused_in 0 (c ∷ cs)
-unfolding refused_in
-first_some c cs is = some_stay (refused_after c.reply.fault 0) cs (one_some c.reply.fault is)
-
-first_none : (c : Ended) (cs : List Ended) → c.reply.fault ≡ false → refused_in 0 (c ∷ cs) ≡ refused_in 0 cs
-unfolding refused_in
-first_none c cs clean = ap (λ f. refused_in (refused_after f 0) cs) clean
-
--- the first refused word after one more word
-first_more : (es : List Ended) (e : Ended) (at : Spot) (old new : Option WordRefusal) → IsFirst es at old → (e.reply.fault ≡ true → refused_in 0 es ≡ 0 → IsRefusal e.word (spot_after at (bytes_of es)) new)
-    → ((e.reply.fault ≡ false) ⊎ (0 < refused_in 0 es) → new ≡ old) → IsFirst (es ++ e ∷ []) at new
-unfolding IsFirst spot_after refused_in
-first_more [] e at old new first taken kept = (λ is. taken is refl, λ clean. kept (inl clean) ∙ first)
-first_more (c ∷ cs) e at old new first taken kept = (
-  λ is. subst (λ f. IsRefusal c.word at f) (sym (kept (inr (first_some c cs is)))) (first.0 is),
-  λ clean.
-      let next : Spot = spot_after at (c.word ++ c.separator ∷ []) in
-      let apart : spot_after at (bytes_of (c ∷ cs)) ≡ spot_after next (bytes_of cs) = ap (spot_after at) (sym (append_assoc c.word (c.separator ∷ []) (bytes_of cs))) ∙ spot_append at (c.word ++ c.separator ∷ []) (bytes_of cs) in
-      first_more cs e next old new (first.1 clean)
-      (λ fault none. subst (λ q. IsRefusal e.word q new) apart (taken fault (first_none c cs clean ∙ none)))
-      (λ h. kept (⊎_elim (λ it. inl it) (λ some. inr (subst (λ n. 0 < n) (sym (first_none c cs clean)) some)) h)),
-)
+-- ---- one more word is told
+pub tells_more : (s : WordRule) (at : Spot) (es : List Ended) (e : Ended) (u v w : Told) → TellsWords s at es u v → TellsWord s (spot_after at (bytes_of es)) (kept_word e.word) v w → TellsWords s at (es ++ e ∷ []) u w
+unfolding TellsWords spot_after
+tells_more s at [] e u v w told one = (w, subst (λ t. TellsWord s at (kept_word e.word) t w) told one, refl)
+tells_more s at (c ∷ cs) e u v w (t, first, told) one =
+    let next : Spot = spot_after at (c.word ++ c.separator ∷ []) in
+    let apart : spot_after at (bytes_of (c ∷ cs)) ≡ spot_after next (bytes_of cs) = ap (spot_after at) (sym (append_assoc c.word (c.separator ∷ []) (bytes_of cs))) ∙ spot_append at (c.word ++ c.separator ∷ []) (bytes_of cs) in
+    (t, first, tells_more s next cs e t v w told (subst (λ q. TellsWord s q (kept_word e.word) v w) apart one))
 
 -- ---- the end of a word
 shown_fault : (ending : Ending) (s : WordRule) (word reply : List ℕ) → (shown ending s word reply).fault ≡ is_refused ending
 shown_fault Converted s word reply = refl
-shown_fault Left s word reply = refl
-shown_fault Refused s word reply = refl
+shown_fault (Left cause) s word reply = refl
+shown_fault (Refused cause) s word reply = refl
+
+text_is : (reply : AnswerText) (text : List ℕ) → reply.text ≡ text → reply.fault ≡ false → reply ≡ record { text = text; fault = false }
+text_is reply text same is =
+    let made : List ℕ → Bool → AnswerText = λ t f. record { text = t; fault = f } in
+    ap (λ t. made t reply.fault) same ∙ ap (made text) is
+
+refused_as : (s : WordRule) (word : List ℕ) (reply : AnswerText) (left : Bool) → reply.fault ≡ true → is_left s.leaves word reply.text ≡ left
+    → answer_of s word reply ≡ (if left then record { text = word; fault = false } else record { text = s.token; fault = true })
+refused_as s word reply left fault is = rw fault (rw is refl)
+
+-- the answer to a word with this ending
+is_shown : (s : WordRule) (word : List ℕ) (reply : AnswerText) (ending : Ending) (text : List ℕ) → IsEnding s word reply ending → (reply.fault ≡ false → reply.text ≡ text) → answer_of s word reply ≡ shown ending s word text
+is_shown s word reply Converted text is same = ap (answer_of s word) (text_is reply text (same is) is)
+is_shown s word reply (Left cause) text is same = refused_as s word reply true (ap (λ (r : AnswerText). r.fault) is.0) is.1
+is_shown s word reply (Refused cause) text is same = refused_as s word reply false (ap (λ (r : AnswerText). r.fault) is.0) is.1
+
+-- the text of an answer that is not refused
+pub same_text : {N C : Type 0} (refusal : C → List ℕ) (text : List ℕ) (result : Result N C) → (reply.answer_of refusal text result).fault ≡ false → (reply.answer_of refusal text result).text ≡ text
+same_text refusal text (Ok note) is = refl
+same_text refusal text (Err cause) is = absurd (true≢false is)
+
+-- the outcome of a word is noted, if outcomes are kept
+pub notes_some : (s : Settings) (ending : Ending) (line : ℕ) (word seen : List ℕ) (tally last : Tally) (errors : Option Kept) (k more : Kept) (noting : Option Outcome) (it : Outcome) → errors ≡ Some k → seen ≡ word → noting ≡ Some it → NotesEnding s ending seen noting
+    → last ≡ noted tally line it → ErrorAddedIf (has_error s.spelling it) k line seen more → NotesWord s ending line word tally errors last (Some more)
+notes_some s ending line word seen tally last errors k more noting it is same outcome ends tallied added =
+    subst (λ e. NotesWord s ending line word tally e last (Some more)) (sym is)
+    (subst (λ w. NotesWord s ending line w tally (Some k) last (Some more)) same (Some it, subst (NotesEnding s ending seen) outcome ends, more, refl, (tallied, added)))
+
+pub notes_none : (s : Settings) (ending : Ending) (line : ℕ) (word seen : List ℕ) (tally : Tally) (errors : Option Kept) (k : Kept) (noting : Option Outcome) → errors ≡ Some k → seen ≡ word → noting ≡ None → NotesEnding s ending seen noting
+    → NotesWord s ending line word tally errors tally (Some k)
+notes_none s ending line word seen tally errors k noting is same outcome ends =
+    subst (λ e. NotesWord s ending line word tally e tally (Some k)) (sym is)
+    (subst (λ w. NotesWord s ending line w tally (Some k) tally (Some k)) same (None, subst (NotesEnding s ending seen) outcome ends, k, refl, (refl, refl)))
+
+-- what is told of a word with this ending, by what each function leaves
+pub tells_ending : (s : WordRule) (ending : Ending) (old mid new : Words) (name last : Option (List ℕ)) (before after : Sight) → Counts ending (start_of old) old.word old.refused old.first mid.refused mid.first → mid.word ≡ old.word → mid.line ≡ old.line
+    → mid.tally ≡ old.tally → mid.errors ≡ old.errors → NotesWord s.rule ending mid.line mid.word mid.tally mid.errors new.tally new.errors → new.refused ≡ mid.refused → new.first ≡ mid.first
+    → PutsReject ending name (start_of old) old.word before after → last ≡ name → TellsEnding s ending (start_of old) old.word (told_by old name before) (told_by new last after)
+tells_ending s ending old mid new name last before after counts word line tally errors notes refused first puts same = record {
+  counts = subst (λ n. Counts ending (start_of old) old.word old.refused old.first n new.first) (sym refused)
+      (subst (λ f. Counts ending (start_of old) old.word old.refused old.first mid.refused f) (sym first) counts);
+  notes = subst (λ n. NotesWord s.rule ending n old.word old.tally old.errors new.tally new.errors) line
+      (subst (λ w. NotesWord s.rule ending mid.line w old.tally old.errors new.tally new.errors) word
+      (subst (λ t. NotesWord s.rule ending mid.line mid.word t old.errors new.tally new.errors) tally
+      (subst (λ k. NotesWord s.rule ending mid.line mid.word mid.tally k new.tally new.errors) errors notes)));
+  puts = puts;
+  name = same;
+}
 
 -- a word that is not empty was answered
-pub ends_word : (s : WordRule) (word ends : List ℕ) (old new : Words) (reply : List ℕ) (fault : Bool) (ending : Ending) (Sent : List ℕ → Type 0) → 0 < length word → AppendsAnswer (IsReply s.rule) 192 word [] reply fault
-    → answer_of s word (record { text = reply; fault = fault }) ≡ shown ending s word reply → new.has_fault ≡ (old.has_fault || is_refused ending) → new.refused ≡ refused_after (is_refused ending) old.refused → IsFirstAfter (is_refused ending) old new.first
-    → IsAtSamePlace old new → Sent ((shown ending s word reply).text ++ ends) → EndsWord s word ends old new Sent
-ends_word s word ends old new reply fault ending Sent some a is faulty counted first place sent =
-    let made : List ℕ → AnswerText = λ (t : List ℕ). record { text = t; fault = fault } in
-    let replied : IsReply s.rule word (made reply) = subst (λ t. IsReply s.rule word (made t)) (sym a.appended) a.answer in
-    let same = sym (shown_fault ending s word reply) in
-    record {
-      reply = shown ending s word reply;
-      replied = of_answer s word (shown ending s word reply) some (record { reply = made reply; replied = replied; is = sym is });
-      fault = faulty ∙ ap (λ b. old.has_fault || b) same;
-      count = counted ∙ ap (λ b. refused_after b old.refused) same;
-      first = subst (λ b. IsFirstAfter b old new.first) same first;
-      place = place;
-      sent = sent;
-    }
+pub ends_word : (s : WordRule) (word ends : List ℕ) (old new : Words) (reply : AnswerText) (ending : Ending) (text : List ℕ) (Sent : List ℕ → Type 0) → 0 < length word → IsReply s.rule word reply → IsEnding s word reply ending
+    → (reply.fault ≡ false → reply.text ≡ text) → new.has_fault ≡ (old.has_fault || is_refused ending) → Sent ((shown ending s word text).text ++ ends) → EndsWord s word ends old new Sent
+ends_word s word ends old new reply ending text Sent some replied is same faulty sent = record {
+  reply = shown ending s word text;
+  replied = of_answer s word (shown ending s word text) some (record { reply = reply; replied = replied; is = sym (is_shown s word reply ending text is same) });
+  fault = faulty ∙ ap (λ b. old.has_fault || b) (sym (shown_fault ending s word text));
+  sent = sent;
+}
 
-same_place : (u : Words) → IsAtSamePlace u u
+-- it was told
+pub tells_word : (s : WordRule) (at : Spot) (word : List ℕ) (reply : AnswerText) (ending : Ending) (u v : Told) → 0 < length word → IsReply s.rule word reply → IsEnding s word reply ending → TellsEnding s ending at word u v → TellsWord s at word u v
+tells_word s at [] reply ending u v some replied is told = absurd (omega (arith, some))
+tells_word s at (b ∷ bytes) reply ending u v some replied is told = (reply, replied, ending, is, told)
+
+-- both, by what a rule returned for the word
+module _ (s : WordRule) (old new : Words) (ends first second third start text shows : List ℕ) (replied : Result (Unit {0}) Message) (ending : Ending) (some : 0 < length old.word) (first_is : first ≡ old.word) (second_is : second ≡ old.word) (start_is : start ≡ [])
+    (r : reply.Replies (IsReply s.rule) message_text 192 first start text replied) (is : (t : List ℕ) → IsEnding s second (reply.answer_of (message_text second) t replied) ending) where
+  abbrev pub raw : AnswerText
+  raw = reply.answer_of (message_text old.word) r.text replied
+
+  answers : IsReply s.rule old.word raw
+  answers = subst (λ w. IsReply s.rule w (reply.answer_of (message_text w) r.text replied)) first_is r.answer
+
+  ends_so : IsEnding s old.word raw ending
+  ends_so = subst (λ w. IsEnding s w (reply.answer_of (message_text w) r.text replied) ending) second_is (is r.text)
+
+  pub answered_word : (Sent : List ℕ → Type 0) → shows ≡ text → third ≡ old.word → new.has_fault ≡ (old.has_fault || is_refused ending) → Sent ((shown ending s third shows).text ++ ends) → EndsWord s old.word ends old new Sent
+  answered_word Sent shows_is third_is faulty sent =
+      let appended : shows ≡ r.text = shows_is ∙ (r.appended ∙ ap (λ l. l ++ r.text) start_is) in
+      ends_word s old.word ends old new raw ending shows Sent some answers ends_so (λ clean. same_text (message_text old.word) r.text replied clean ∙ sym appended) faulty
+      (subst (λ w. Sent ((shown ending s w shows).text ++ ends)) third_is sent)
+
+  pub told_word : (u v : Told) → TellsEnding s ending (start_of old) old.word u v → TellsWord s (start_of old) old.word u v
+  told_word u v told = tells_word s (start_of old) old.word raw ending u v some answers ends_so told
+
+pub name_same : {J : Type 0} (a b : Rejects J) → b.name ≡ a.name → name_of b ≡ name_of a
+name_same a b same = ap (λ n. option_map (λ l. l.now) n) same
+
+pub same_place : (u : Words) → IsAtSamePlace u u
 same_place u = record { line = refl; byte = refl; start = refl }
 
 -- an empty word
@@ -242,27 +302,18 @@ ends_none s ends u Sent none sent = record {
   reply = record { text = []; fault = false };
   replied = subst (λ w. IsWordReply s w (record { text = []; fault = false })) (sym none) refl;
   fault = sym (or_false u.has_fault);
-  count = refl;
-  first = record { taken = λ is. absurd (true≢false (sym is)); kept = λ _. refl };
-  place = same_place u;
   sent = sent;
 }
 
--- what is kept of the word itself does not matter
-pub ends_same : (s : WordRule) (word ends : List ℕ) (old mid new : Words) (Sent : List ℕ → Type 0) → new.has_fault ≡ mid.has_fault → new.refused ≡ mid.refused → new.first ≡ mid.first → IsAtSamePlace mid new → EndsWord s word ends old mid Sent
-    → EndsWord s word ends old new Sent
-ends_same s word ends old mid new Sent fault refused first place e = record {
-  reply = e.reply;
-  replied = e.replied;
-  fault = fault ∙ e.fault;
-  count = refused ∙ e.count;
-  first = subst (λ f. IsFirstAfter e.reply.fault old f) (sym first) e.first;
-  place = record { line = place.line ∙ e.place.line; byte = place.byte ∙ e.place.byte; start = place.start ∙ e.place.start };
-  sent = e.sent;
-}
+pub tells_none : (s : WordRule) (at : Spot) (word : List ℕ) (u : Told) → word ≡ [] → TellsWord s at word u u
+tells_none s at word u none = subst (λ w. TellsWord s at w u u) (sym none) refl
 
--- the word that a machine keeps, after these bytes, is refused where it begins
-module _ (s : WordRule) (bytes made : List ℕ) (old : Words) (h : GoesOn s bytes made old) where
+-- what is kept of the word itself does not matter
+pub ends_same : (s : WordRule) (word ends : List ℕ) (old mid new : Words) (Sent : List ℕ → Type 0) → new.has_fault ≡ mid.has_fault → EndsWord s word ends old mid Sent → EndsWord s word ends old new Sent
+ends_same s word ends old mid new Sent fault e = record { reply = e.reply; replied = e.replied; fault = fault ∙ e.fault; sent = e.sent }
+
+-- the word that a machine keeps, after these bytes, is told where it begins
+module _ (s : WordRule) (first : Told) (bytes made : List ℕ) (old : Words) (mid : Told) (h : GoesOn s first bytes made old mid) where
   abbrev pub begins : Spot
   begins = spot_after origin (bytes_of h.words)
 
@@ -270,19 +321,15 @@ module _ (s : WordRule) (bytes made : List ℕ) (old : Words) (h : GoesOn s byte
   line_is = ap (λ (q : Spot). q.line) h.spot ∙ (ap (λ l. (spot_after origin l).line) h.cut
       ∙ (ap (λ (q : Spot). q.line) (spot_append origin (bytes_of h.words) h.rest) ∙ line_within s.separators.now begins h.rest h.unbroken))
 
-  refusal_is : (first : Option WordRefusal) → IsRefusal old.word (record { line = old.line; byte = old.start }) first → IsRefusal h.rest begins first
-  refusal_is first r =
-      let made : ℕ → List ℕ → ℕ → Option WordRefusal = λ line text byte. Some (record { line = record { number = line; text = text; cause = take kept_bytes r.0 }; byte = byte }) in
-      (r.0, r.1 ∙ (ap (λ n. made n (take kept_bytes old.word) old.start) line_is ∙ (ap (λ t. made begins.line t old.start) h.kept.first ∙ ap (λ n. made begins.line (take kept_bytes h.rest) n) h.start)))
+  start_is : start_of old ≡ begins
+  start_is =
+      let spot : ℕ → ℕ → Spot = λ line byte. record { line = line; byte = byte } in
+      ap (λ n. spot n old.start) line_is ∙ ap (spot begins.line) h.start
 
-  -- all words and the one that ends are counted
-  pub counts : (new : Words) (e : Ended) → e.word ≡ h.rest → new.refused ≡ refused_after e.reply.fault old.refused → new.refused ≡ refused_in 0 (h.words ++ e ∷ [])
-  counts new e word count = count ∙ (ap (refused_after e.reply.fault) h.count ∙ sym (count_more 0 h.words e))
-
-  pub firsts : (new : Words) (e : Ended) → e.word ≡ h.rest → IsFirstAfter e.reply.fault old new.first → IsFirst (h.words ++ e ∷ []) origin new.first
-  firsts new e word after = first_more h.words e origin old.first new.first h.first
-      (λ fault none. subst (λ w. IsRefusal w begins new.first) (sym word) (refusal_is new.first (after.taken fault (h.count ∙ none))))
-      (λ it. after.kept (⊎_elim (λ clean. inl clean) (λ some. inr (subst (λ n. 0 < n) (sym h.count) some)) it))
+  -- all words and the one that ends are told
+  pub tells_all : (e : Ended) (last : Told) → e.word ≡ h.rest → TellsWord s (start_of old) old.word mid last → TellsWords s origin (h.words ++ e ∷ []) first last
+  tells_all e last word one = tells_more s origin h.words e first mid last h.tells
+      (subst (λ w. TellsWord s begins w mid last) (h.kept ∙ ap kept_word (sym word)) (subst (λ q. TellsWord s q old.word mid last) start_is one))
 
 -- ---- one more byte
 passed : (s : WordRule) (b : ℕ) (old mid new : Words) → IsAtSamePlace old mid → Passes b mid new → (bytes : List ℕ) → spot_of old ≡ spot_after origin bytes → spot_of new ≡ spot_after origin (bytes ++ b ∷ [])
@@ -298,50 +345,52 @@ not_empty word b kept k = ⊎_elim
     (cases_lt longest_line (length (word ++ b ∷ [])))
 
 -- the byte is part of a word
-pub takes_part : (s : WordRule) (b : ℕ) (old mid new : Words) (Sent : List ℕ → Type 0) → AddsByte s b old mid Sent → Passes b mid new → TakesByte s b old new Sent
-takes_part s b old mid new Sent t p = record {
+pub takes_part : (s : WordRule) (b : ℕ) (old mid new : Words) (u v : Told) (Sent : List ℕ → Type 0) → AddsByte s b old mid Sent → IsAtSamePlace old mid → TellsIfEnded (is_separator s.separators.now b) s old u v → Passes b mid new
+    → TakesByte s b old new u v Sent
+takes_part s b old mid new u v Sent t place told p = record {
   more = [];
-  goes = λ bytes made h.
-      let kept : IsKept (h.rest ++ b ∷ []) mid.word = t.kept h.rest h.kept in
+  goes = λ first bytes made h.
+      let kept : mid.word ≡ kept_word (h.rest ++ b ∷ []) = t.kept h.rest h.kept in
+      let same : v ≡ u = subst (λ ends. TellsIfEnded ends s old u v) t.inner told in
       record {
         words = h.words;
         are = h.are;
         rest = h.rest ++ b ∷ [];
         unbroken = unbroken_more s.separators.now h.rest b h.unbroken t.inner;
-        kept = subst (λ w. IsKept (h.rest ++ b ∷ []) w) (sym p.word) kept;
+        kept = p.word ∙ kept;
         cut = ap (λ w. w ++ b ∷ []) h.cut ∙ append_assoc (bytes_of h.words) h.rest (b ∷ []);
         text_is = append-nil made ∙ h.text_is;
         faulty = p.fault ∙ (t.fault ∙ h.faulty);
-        count = p.refused ∙ (t.refused ∙ h.count);
-        first = subst (λ f. IsFirst h.words origin f) (sym (p.first ∙ t.first)) h.first;
-        spot = passed s b old mid new t.place p bytes h.spot;
-        start = p.start ∙ (rw (not_empty h.rest b mid.word kept) (t.place.start ∙ h.start));
+        tells = subst (TellsWords s origin h.words first) (sym same) h.tells;
+        spot = passed s b old mid new place p bytes h.spot;
+        start = p.start ∙ (rw (not_empty h.rest b mid.word (is_kept (h.rest ++ b ∷ []) mid.word kept)) (place.start ∙ h.start));
       };
   sent = t.sent;
 }
 
 -- the byte ends a word
-pub takes_end : (s : WordRule) (b : ℕ) (old mid new : Words) (Sent : List ℕ → Type 0) → EndsBy s b old mid Sent → Passes b mid new → TakesByte s b old new Sent
-takes_end s b old mid new Sent t p = record {
+pub takes_end : (s : WordRule) (b : ℕ) (old mid new : Words) (u v : Told) (Sent : List ℕ → Type 0) → EndsBy s b old mid Sent → IsAtSamePlace old mid → TellsIfEnded (is_separator s.separators.now b) s old u v → Passes b mid new
+    → TakesByte s b old new u v Sent
+takes_end s b old mid new u v Sent t place told p = record {
   more = t.word.reply.text ++ b ∷ [];
-  goes = λ bytes made h.
+  goes = λ first bytes made h.
       let e = t.word in
       let ended : Ended = record { word = h.rest; separator = b; reply = e.reply } in
       let more : List Ended = h.words ++ ended ∷ [] in
       let cut : bytes ++ b ∷ [] ≡ bytes_of more = ap (λ w. w ++ b ∷ []) h.cut ∙ (append_assoc (bytes_of h.words) h.rest (b ∷ []) ∙ sym (bytes_more h.words ended)) in
       let none : new.word ≡ [] = p.word ∙ t.none in
-      let spot : spot_of new ≡ spot_after origin (bytes ++ b ∷ []) = passed s b old mid new e.place p bytes h.spot in
+      let spot : spot_of new ≡ spot_after origin (bytes ++ b ∷ []) = passed s b old mid new place p bytes h.spot in
+      let one : TellsWord s (start_of old) old.word u v = subst (λ ends. TellsIfEnded ends s old u v) t.ends told in
       record {
         words = more;
         are = are_more s h.words ended h.are (record { unbroken = h.unbroken; separates = t.ends; replied = reply_kept s h.rest old.word e.reply h.kept e.replied });
         rest = [];
         unbroken = tt;
-        kept = record { whole = λ _. none; full = λ many. absurd (omega (arith, many)); first = ap (take kept_bytes) none };
+        kept = none ∙ sym nothing_kept;
         cut = cut ∙ sym (append-nil (bytes_of more));
         text_is = ap (λ l. l ++ (e.reply.text ++ b ∷ [])) h.text_is ∙ sym (written_more h.words ended);
         faulty = p.fault ∙ (e.fault ∙ (ap (λ f. f || e.reply.fault) h.faulty ∙ sym (refused_more h.words ended)));
-        count = p.refused ∙ counts s bytes made old h mid ended refl e.count;
-        first = subst (λ f. IsFirst more origin f) (sym p.first) (firsts s bytes made old h mid ended refl e.first);
+        tells = tells_all s first bytes made old u h ended v refl one;
         spot = spot;
         start = p.start ∙ (rw (ap length t.none) (ap (λ (q : Spot). q.byte) spot ∙ ap (λ l. (spot_after origin l).byte) cut));
       };
@@ -363,20 +412,23 @@ pub none_left : (part : List ℕ) → HasNone is_piece part → part ≡ []
 none_left [] none = refl
 none_left (b ∷ bytes) none = let no : true ≡ false = none.0 in absurd cc
 
-module _ {J : Type 0} (first old new : WordBytes J) (bytes made : List ℕ) (spent : ℕ) (a b : Moment) (same : new.rule ≡ old.rule) (makes : MakesBy first bytes made spent going old) where
+module _ {J : Type 0} (written : J → Option (List ℕ)) (failures : J → ℕ) (first old new : WordBytes J) (bytes made : List ℕ) (spent : ℕ) (a b : Moment) (same : new.rule ≡ old.rule) (makes : MakesBy written failures first bytes made spent going old) where
+  abbrev pub told : WordBytes J → Told
+  told it = told_of written failures it.words it.rejects
+
   rule_of : new.rule ≡ first.rule
   rule_of = same ∙ makes.0
 
   -- the words after one more byte
-  byte_made : (byte : ℕ) (Sent : List ℕ → Type 0) (t : TakesByte old.rule.now byte old.words new.words Sent) → GoesOn first.rule.now (bytes ++ byte ∷ []) (made ++ t.more) new.words
+  byte_made : (byte : ℕ) (Sent : List ℕ → Type 0) (t : TakesByte old.rule.now byte old.words new.words (told_of written failures old.words old.rejects) (told_of written failures new.words new.rejects) Sent) → GoesOn first.rule.now (told first) (bytes ++ byte ∷ []) (made ++ t.more) new.words (told new)
   byte_made byte Sent t =
-      let before : GoesOn old.rule.now bytes made old.words = subst (λ r. GoesOn r.now bytes made old.words) (sym makes.0) makes.1 in
-      subst (λ r. GoesOn r.now (bytes ++ byte ∷ []) (made ++ t.more) new.words) makes.0 (t.goes bytes made before)
+      let before : GoesOn old.rule.now (told first) bytes made old.words (told old) = subst (λ r. GoesOn r.now (told first) bytes made old.words (told old)) (sym makes.0) makes.1 in
+      subst (λ r. GoesOn r.now (told first) (bytes ++ byte ∷ []) (made ++ t.more) new.words (told new)) makes.0 (t.goes (told first) bytes made before)
 
-  pub byte_goes : (byte : ℕ) → TakesByte old.rule.now byte old.words new.words (Puts a.seen b.seen a.held b.held) → Goes (MakesBy first) bytes made spent (byte ∷ []) going new a b
+  pub byte_goes : (byte : ℕ) → TakesByte old.rule.now byte old.words new.words (told_of written failures old.words old.rejects) (told_of written failures new.words new.rejects) (Puts a.seen b.seen a.held b.held) → Goes (MakesBy written failures first) bytes made spent (byte ∷ []) going new a b
   byte_goes byte t = record { more = t.more; cost = b.steps; makes = (rule_of, byte_made byte (Puts a.seen b.seen a.held b.held) t); puts = t.sent; steps = omega arith }
 
-  pub byte_breaks : (byte : ℕ) → TakesByte old.rule.now byte old.words new.words (Breaks a.seen b.seen a.held) → BreaksAmong (MakesBy first) false bytes made spent (byte ∷ []) new a b
+  pub byte_breaks : (byte : ℕ) → TakesByte old.rule.now byte old.words new.words (told_of written failures old.words old.rejects) (told_of written failures new.words new.rejects) (Breaks a.seen b.seen a.held) → BreaksAmong (MakesBy written failures first) false bytes made spent (byte ∷ []) new a b
   byte_breaks byte t = record {
     some = byte ∷ [];
     rest = [];
@@ -391,9 +443,10 @@ module _ {J : Type 0} (first old new : WordBytes J) (bytes made : List ℕ) (spe
   }
 
   -- the end of the input
-  all_made : (Sent : List ℕ → Type 0) (e : EndsWord old.rule.now old.words.word [] old.words new.words Sent) → Ends first.rule.now (bytes ++ []) (made ++ (e.reply.text ++ [])) new.words.has_fault new.words
-  all_made Sent e =
-      let h : GoesOn first.rule.now bytes made old.words = makes.1 in
+  all_made : (Sent : List ℕ → Type 0) (e : EndsWord old.rule.now old.words.word [] old.words new.words Sent) → TellsWord old.rule.now (start_of old.words) old.words.word (told old) (told new)
+      → Ends first.rule.now (told first) (bytes ++ []) (made ++ (e.reply.text ++ [])) new.words.has_fault (told new)
+  all_made Sent e tells =
+      let h : GoesOn first.rule.now (told first) bytes made old.words (told old) = makes.1 in
       let replied : IsWordReply first.rule.now old.words.word e.reply = subst (λ r. IsWordReply r.now old.words.word e.reply) makes.0 e.replied in
       let last : Ended = last_word h.rest e.reply in
       record {
@@ -408,15 +461,17 @@ module _ {J : Type 0} (first old new : WordBytes J) (bytes made : List ℕ) (spe
           text_is = ap (λ l. made ++ l) (append-nil e.reply.text) ∙ ap (λ l. l ++ e.reply.text) h.text_is;
           fault_is = e.fault ∙ ap (λ f. f || e.reply.fault) h.faulty;
         };
-        count = counts first.rule.now bytes made old.words h new.words last refl e.count;
-        first = firsts first.rule.now bytes made old.words h new.words last refl e.first;
+        tells = tells_all first.rule.now (told first) bytes made old.words (told old) h last (told new) refl
+            (subst (λ r. TellsWord r.now (start_of old.words) old.words.word (told old) (told new)) makes.0 tells);
       }
 
-  pub end_goes : EndsWord old.rule.now old.words.word [] old.words new.words (Puts a.seen b.seen a.held b.held) → Goes (MakesBy first) bytes made spent [] (finished new.words.has_fault) new a b
-  end_goes e = record { more = e.reply.text ++ []; cost = b.steps; makes = (rule_of, all_made (Puts a.seen b.seen a.held b.held) e); puts = e.sent; steps = omega arith }
+  pub end_goes : TellsWord old.rule.now (start_of old.words) old.words.word (told_of written failures old.words old.rejects) (told_of written failures new.words new.rejects)
+      → EndsWord old.rule.now old.words.word [] old.words new.words (Puts a.seen b.seen a.held b.held) → Goes (MakesBy written failures first) bytes made spent [] (finished new.words.has_fault) new a b
+  end_goes tells e = record { more = e.reply.text ++ []; cost = b.steps; makes = (rule_of, all_made (Puts a.seen b.seen a.held b.held) e tells); puts = e.sent; steps = omega arith }
 
-  pub end_breaks : EndsWord old.rule.now old.words.word [] old.words new.words (Breaks a.seen b.seen a.held) → BreaksAmong (MakesBy first) true bytes made spent [] new a b
-  end_breaks e = record {
+  pub end_breaks : TellsWord old.rule.now (start_of old.words) old.words.word (told_of written failures old.words old.rejects) (told_of written failures new.words new.rejects)
+      → EndsWord old.rule.now old.words.word [] old.words new.words (Breaks a.seen b.seen a.held) → BreaksAmong (MakesBy written failures first) true bytes made spent [] new a b
+  end_breaks tells e = record {
     some = [];
     rest = [];
     cut = refl;
@@ -424,7 +479,7 @@ module _ {J : Type 0} (first old new : WordBytes J) (bytes made : List ℕ) (spe
     uses = (refl, refl);
     more = e.reply.text ++ [];
     cost = b.steps;
-    makes = (rule_of, all_made (Breaks a.seen b.seen a.held) e);
+    makes = (rule_of, all_made (Breaks a.seen b.seen a.held) e tells);
     breaks = e.sent;
     steps = omega arith;
   }

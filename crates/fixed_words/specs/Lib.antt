@@ -1,6 +1,6 @@
 pub mod Words
 pub mod Run
-pub mod Noted
+pub mod Told
 pub mod Laws
 pub mod Inner
 pub mod Lemmas

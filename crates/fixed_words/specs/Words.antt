@@ -1,11 +1,13 @@
 -- The words of a text, each converted in its place.
 use Rattle.std.specs.Prelude.{◌≡◌, ◌&&◌, ◌||◌, ◌++◌, ◌==◌, ℕ, Bool, true, false, List, [], ◌∷◌, codes, not}
-use Rattle.std.specs.Prelude.{if◌then◌else◌, length, nat_le}
+use Rattle.std.specs.Prelude.{if◌then◌else◌, length, nat_le, take}
 use Rattle.std.specs.Char.{is_ascii_whitespace}
 use Rattle.std.specs.List.{list_any}
 use Rattle.std.specs.Str.{bytes_eq}
 use Rattle.line_engine.specs.AnswerText.{AnswerText}
 use Rattle.fixed_command.specs.Convert.{IsReply}
+use Rattle.fixed_respell.specs.LineWords.{longest_line}
+use Rattle.fixed_respell.specs.Language.{fault_answer}
 use Rattle.fixed_words.specs.declared.rule.Ending.{Ending}
 use Rattle.fixed_words.specs.declared.rule.Ending.TheVariants.{Converted, Left, Refused}
 use Rattle.fixed_words.specs.declared.rule.Leaving.{Leaving}
@@ -45,14 +47,26 @@ answer_of rule word reply = if not reply.fault then reply else (if is_left rule.
 -- the same, by how the word ended
 abbrev pub shown : Ending → WordRule → List ℕ → List ℕ → AnswerText
 shown Converted rule word reply = record { text = reply; fault = false }
-shown Left rule word reply = record { text = word; fault = false }
-shown Refused rule word reply = record { text = rule.token; fault = true }
+shown (Left cause) rule word reply = record { text = word; fault = false }
+shown (Refused cause) rule word reply = record { text = rule.token; fault = true }
+
+-- how a word with this reply ended
+abbrev pub IsEnding : WordRule → List ℕ → AnswerText → Ending → Type 0
+IsEnding rule word reply Converted = reply.fault ≡ false
+IsEnding rule word reply (Left cause) = (reply ≡ fault_answer cause.text.now)
+    × (is_left rule.leaves word reply.text ≡ true)
+IsEnding rule word reply (Refused cause) = (reply ≡ fault_answer cause.text.now)
+    × (is_left rule.leaves word reply.text ≡ false)
 
 -- whether a word with this ending is refused
 abbrev pub is_refused : Ending → Bool
 is_refused Converted = false
-is_refused Left = false
-is_refused Refused = true
+is_refused (Left cause) = false
+is_refused (Refused cause) = true
+
+-- the kept bytes of a word
+unfoldable pub kept_word : List ℕ → List ℕ
+kept_word word = take longest_line word
 
 -- the answer to a word; an empty word has an empty answer
 abbrev pub IsWordReply : WordRule → List ℕ → AnswerText → Type 0

@@ -1,10 +1,14 @@
 //! Converts the words of an input, over any source and any sink.
 
-ghost use Rattle.std.specs.Prelude.{◌≡◌};
+ghost use Rattle.std.specs.Prelude.{◌≡◌, Option};
 ghost use Rattle.line_engine.specs.Program.{outside};
 ghost use Rattle.line_engine.specs.declared.status.Status.{Status};
 ghost use Rattle.fixed_command.specs.Limits.{limit_of};
+ghost use Rattle.fixed_command.specs.Rejects.{name_of};
+ghost use Rattle.fixed_report.specs.Report.{Kept};
 ghost use Rattle.fixed_words.specs.Run.{HasWordsRun};
+ghost use Rattle.fixed_words.specs.Told.{IsNoError, nothing_told};
+ghost use Rattle.line_rejects.specs.Rejects.{sight_of};
 
 use crate::rule::WordRule;
 use crate::splitter::{WordBytes, WordRefusal, Words};
@@ -37,9 +41,13 @@ pub struct WordsEnd {
 impl WordsEnd {
     /// Returns the end of a run with this status.
     fn of(words: Words, status: Status) -> WordsEnd
-        ensures status { result.status ≡ status }
-        ensures refused { result.refused ≡ words.refused }
-        ensures first { result.first ≡ words.first }
+        ensures { result ≡ record {
+          status = status;
+          refused = words.refused;
+          first = words.first;
+          tally = words.tally;
+          errors = words.errors;
+        } }
     {
         WordsEnd {
             status,
@@ -52,7 +60,9 @@ impl WordsEnd {
 }
 
 /// Returns the report of the greatest error, if requested.
-fn errors_of(alloc: Global, rule: &WordRule<'_>, has_report: bool) -> Option<ErrorReport> {
+fn errors_of(alloc: Global, rule: &WordRule<'_>, has_report: bool) -> Option<ErrorReport>
+    ensures { IsNoError has_report rule.now.rule result }
+{
     if has_report {
         Some(error_report(alloc, rule.rule.settings()))
     } else {
@@ -79,16 +89,25 @@ pub fn convert_words<S: Source, K: Sink, J: Sink + Drop, L: Ledger>(
     steps: &mut Steps<L>,
 ) -> WordsEnd
     // The bytes read, made and written, by status; which count of failures rose; what reads requested; how many words
-    // were refused, and the first of them.
-    ensures run { ¬ (result.status ≡ Status.NoMemory) → HasWordsRun (limit_of limit.now) rule.now
+    // were refused, and the first of them; the outcomes and the greatest error, if requested; and the lines of rejects.
+    ensures run { ¬ (result.status ≡ Status.NoMemory) → (none : Option Kept) × IsNoError has_report rule.now.rule none
+        × HasWordsRun (limit_of limit.now) rule.now
         (outside (S.left source.old) (S.asked source.old) (S.failures source.old) (K.written sink.old)
         (K.failures sink.old) steps.old)
         (outside (S.left source.new) (S.asked source.new) (S.failures source.new) (K.written sink.new)
-        (K.failures sink.new) steps.new) result.status result.refused result.first }
+        (K.failures sink.new) steps.new) result.status
+        (nothing_told none (name_of rejects.old) (sight_of J.written J.failures rejects.old)) (record {
+          refused = result.refused;
+          first = result.first;
+          tally = result.tally;
+          errors = result.errors;
+          name = name_of rejects.new;
+          rejects = sight_of J.written J.failures rejects.new;
+        }) }
 
-    // Without memory, nothing was read or written.
-    ensures memory { result.status ≡ Status.NoMemory
-        → (source.new ≡ source.old) × (sink.new ≡ sink.old) × (steps.new ≡ steps.old) }
+    // Without memory, nothing was read, written or put.
+    ensures memory { result.status ≡ Status.NoMemory → (source.new ≡ source.old) × (sink.new ≡ sink.old)
+        × (rejects.new ≡ rejects.old) × (steps.new ≡ steps.old) }
 {
     match RecordBuffer::new(alloc) {
         Err(_) => WordsEnd {

@@ -4,13 +4,15 @@
 //! bytes; it is kept in memory that is allocated before the first read. A byte of numerals cannot be a separator, since
 //! `0.5` would be two words.
 
-ghost use Rattle.std.specs.Prelude.{◌≡◌, ◌≤◌, ◌+◌, ◌++◌, OnErr, OnOk, length};
-ghost use Rattle.fixed_words.specs.Words.{answer_of, is_left, is_overflow, is_separator, longest_left, shown};
-ghost use Rattle.fixed_words.specs.declared.rule.Ending.{Ending};
+ghost use Rattle.std.specs.Prelude.{◌≡◌, ◌≤◌, ◌+◌, ◌++◌, List, ℕ, OnErr, OnOk, length};
+ghost use Rattle.fixed_command.specs.Message.{message_text};
+ghost use Rattle.fixed_words.specs.Words.{IsEnding, is_left, is_overflow, is_separator, shown};
+ghost use Rattle.fixed_words.specs.Inner.Progress.{LeftFits};
+ghost use Rattle.run_engine.specs.Reply.{answer_of, error_text};
 ghost use Rattle.run_engine.specs.Seen.{Breaks, Puts};
 
 use column_engine::RecordBuffer;
-use fixed_command::ConvertRule;
+use fixed_command::{ConvertRule, Message};
 use line_engine::Failed;
 use run_engine::{Gathered, Streams};
 use text_buffer::TextBuffer;
@@ -46,14 +48,14 @@ pub struct WordRule<'a> {
 }
 
 /// How a word ended.
-#[derive(Clone, Copy, Debug, PartialEq, Eq)]
+#[derive(Clone, Copy)]
 pub enum Ending {
     /// The reply to it is written.
     Converted,
-    /// It stays as it was.
-    Left,
-    /// It is refused: the token is written.
-    Refused,
+    /// It has no number, for this cause, and stays as it was.
+    Left(Message),
+    /// It is refused for this cause: the token is written.
+    Refused(Message),
 }
 
 /// Whether a byte separates words.
@@ -63,36 +65,34 @@ pub(crate) fn is_separator(others: &[u8], byte: u8) -> bool
     byte.is_ascii_whitespace() || others.contains(&byte)
 }
 
-/// Whether a reply says that a number is out of range.
-pub(crate) fn is_overflow(reply: &[u8]) -> bool
-    ensures { result ≡ is_overflow reply.now }
+/// Whether the cause is that a number is out of range.
+pub(crate) fn is_overflow(cause: Message) -> bool
+    ensures { result ≡ is_overflow (error_text cause.text.now) }
 {
-    reply == b"error: overflow".as_slice()
+    cause.text.as_bytes() == b"overflow".as_slice()
 }
 
-/// Whether a word that is refused with this reply stays as it was.
-fn is_left(leaves: Leaving, word: &[u8], reply: &[u8]) -> bool
-    ensures { result ≡ is_left leaves word.now reply.now }
+/// Whether a word that has no number, for this cause, stays as it was.
+fn is_left(leaves: Leaving, word: &[u8], cause: Message) -> bool
+    ensures { result ≡ is_left leaves word.now (error_text cause.text.now) }
 {
     match leaves {
         Leaving::Nothing => false,
-        Leaving::NoNumerals => word.len() <= MAX_LEFT && !is_overflow(reply),
+        Leaving::NoNumerals => word.len() <= MAX_LEFT && !is_overflow(cause),
         Leaving::Everything => word.len() <= MAX_LEFT,
     }
 }
 
-/// Returns how a word with this reply ends.
-pub(crate) fn ending_of(rule: &WordRule<'_>, word: &[u8], reply: &[u8], is_fault: bool) -> Ending
-    ensures shown { answer_of rule.now word.now (record { text = reply.now; fault = is_fault })
-        ≡ shown result rule.now word.now reply.now }
-    ensures short { result ≡ Ending.Left → length word.now ≤ longest_left }
+/// Returns how a word ends that is converted or has no number for this cause.
+pub(crate) fn ending_of(rule: &WordRule<'_>, word: &[u8], replied: &Result<(), Message>) -> Ending
+    ensures ending { (text : List ℕ) → IsEnding rule.now word.now (answer_of (message_text word.now) text replied.now)
+        result }
+    ensures short { LeftFits result word.now }
 {
-    if !is_fault {
-        Ending::Converted
-    } else if is_left(rule.leaves, word, reply) {
-        Ending::Left
-    } else {
-        Ending::Refused
+    match replied {
+        Ok(()) => Ending::Converted,
+        Err(cause) if is_left(rule.leaves, word, *cause) => Ending::Left(*cause),
+        Err(cause) => Ending::Refused(*cause),
     }
 }
 
@@ -118,7 +118,7 @@ pub(crate) fn put_shown<I: Streams>(
     end: &[u8],
     out: &mut Gathered<I>,
 ) -> Result<(), Failed>
-    requires short { ending ≡ Ending.Left → length word.old ≤ longest_left }
+    requires short { LeftFits ending word.old }
     requires reply { length reply.now ≤ 192 }
     requires end { length end.now ≤ 1 }
     ensures ok { OnOk result (Puts (I.seen out.old.io) (I.seen out.new.io) out.old.text out.new.text
@@ -128,10 +128,10 @@ pub(crate) fn put_shown<I: Streams>(
 {
     match ending {
         Ending::Converted => put_ended(reply, end, out),
-        Ending::Left => {
+        Ending::Left(_) => {
             word.append(end);
             out.put(word.as_slice())
         }
-        Ending::Refused => put_ended(rule.token.as_bytes(), end, out),
+        Ending::Refused(_) => put_ended(rule.token.as_bytes(), end, out),
     }
 }

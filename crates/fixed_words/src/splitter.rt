@@ -1,11 +1,17 @@
 //! Converts words as the bytes of their text arrive: the word that has not ended, and the pieces of a run.
 
-ghost use Rattle.std.specs.Prelude.{◌≡◌, ◌≤◌, ◌<◌, ◌++◌, ◌∷◌, ◌||◌, [], List, MatchOption, ℕ, OnOk, OnErr};
-ghost use Rattle.std.specs.Prelude.{◌==◌, None, get_or, if◌then◌else◌, length, take, true};
-ghost use Rattle.fixed_words.specs.Noted.{IsAtSamePlace, IsFirstAfter, IsNotedAlike, refused_after};
-ghost use Rattle.fixed_words.specs.Words.{is_refused};
-ghost use Rattle.fixed_words.specs.Run.{GoesOn, IsKept, is_piece};
-ghost use Rattle.fixed_words.specs.Inner.Progress.{EndsWord, Passes, Takes, TakesByte};
+ghost use Rattle.std.specs.Prelude.{◌≡◌, ◌≤◌, ◌<◌, ◌++◌, ◌∷◌, ◌||◌, [], List, MatchOption, ℕ, OnOk, Option};
+ghost use Rattle.std.specs.Prelude.{◌==◌, None, OnErr, get_or, if◌then◌else◌, length, take, true};
+ghost use Rattle.fixed_command.specs.Observed.{ErrorAddedIf};
+ghost use Rattle.fixed_command.specs.Outcome.{has_error};
+ghost use Rattle.fixed_command.specs.Rejects.{name_of};
+ghost use Rattle.fixed_words.specs.Told.{Counts, NotesEnding, NotesWord, PutsReject, TellsWord, nothing_told, told_by};
+ghost use Rattle.fixed_words.specs.Told.{told_of};
+ghost use Rattle.line_rejects.specs.Rejects.{Sight, sight_of};
+ghost use Rattle.fixed_words.specs.Words.{is_refused, is_separator, kept_word};
+ghost use Rattle.fixed_words.specs.Run.{GoesOn, is_piece};
+ghost use Rattle.fixed_words.specs.Inner.Progress.{EndsWord, IsAtSamePlace, IsToldAlike, Passes, Takes, TakesByte};
+ghost use Rattle.fixed_words.specs.Inner.Progress.{TellsIfEnded, start_of};
 ghost use Rattle.fixed_words.specs.declared.rule.WordRule.{WordRule};
 ghost use Rattle.run_engine.specs.Pieces.{HasNone};
 ghost use Rattle.run_engine.specs.Seen.{Breaks, Puts};
@@ -59,21 +65,52 @@ fn is_refused(ending: Ending) -> bool
     ensures { result ≡ is_refused ending }
 {
     match ending {
-        Ending::Converted | Ending::Left => false,
-        Ending::Refused => true,
+        Ending::Converted | Ending::Left(_) => false,
+        Ending::Refused(_) => true,
     }
 }
 
-/// Returns the cause of a refusal, from its reply.
-fn cause_of(reply: &[u8]) -> &[u8] {
-    reply.strip_prefix(b"error: ").unwrap_or(reply)
+/// Returns the outcome of a word with this ending. A word that stays has none if it is not a numeral.
+fn noted_outcome<L: Ledger>(
+    rule: &ConvertRule,
+    ending: Ending,
+    word: &[u8],
+    steps: &mut Steps<L>,
+) -> Option<Outcome>
+    ensures { NotesEnding rule.now ending word.now result }
+{
+    match ending {
+        Ending::Converted => Some(outcome_of(rule.settings(), word, steps)),
+        Ending::Left(cause) if is_overflow(cause) => Some(Outcome::Overflowed),
+        Ending::Left(_) => None,
+        Ending::Refused(_) => Some(Outcome::Refused),
+    }
+}
+
+/// Records the error of a word in this line, if its outcome has one.
+fn add_error<L: Ledger>(
+    rule: &ConvertRule,
+    line: u64,
+    word: &[u8],
+    outcome: Outcome,
+    errors: &mut ErrorReport,
+    steps: &mut Steps<L>,
+)
+    ensures { ErrorAddedIf (has_error rule.now.spelling outcome) errors.old line word.now errors.new }
+{
+    if has_error(rule.settings().spelling, outcome) {
+        errors.add(word, line, steps);
+    }
 }
 
 impl Words {
     /// The state before the first byte, with room for a word.
     pub fn new(word: RecordBuffer, errors: Option<ErrorReport>) -> Words
         requires { word ≡ [] }
-        ensures { (s : WordRule) → GoesOn s [] [] result }
+        ensures nothing { (name : Option (List ℕ)) (rejects : Sight) → told_by result name rejects
+            ≡ nothing_told errors name rejects }
+        ensures goes { (s : WordRule) (name : Option (List ℕ)) (rejects : Sight) → GoesOn s
+            (told_by result name rejects) [] [] result (told_by result name rejects) }
     {
         Words {
             word,
@@ -88,73 +125,72 @@ impl Words {
         }
     }
 
-    /// Counts a word with this ending and reply.
-    fn count(&mut self, ending: Ending, reply: &[u8])
+    /// Counts a word with this ending, and keeps the first refused one.
+    fn count(&mut self, ending: Ending)
         ensures word { self.new.word ≡ self.old.word }
         ensures fault { self.new.has_fault ≡ (self.old.has_fault || is_refused ending) }
-        ensures refused { self.new.refused ≡ refused_after (is_refused ending) self.old.refused }
-        ensures first { IsFirstAfter (is_refused ending) self.old self.new.first }
+        ensures counts { Counts ending (start_of self.old) self.old.word self.old.refused self.old.first
+            self.new.refused self.new.first }
         ensures place { IsAtSamePlace self.old self.new }
-        ensures noted { IsNotedAlike self.old self.new }
+        ensures tally { self.new.tally ≡ self.old.tally }
+        ensures errors { self.new.errors ≡ self.old.errors }
     {
-        if is_refused(ending) {
+        if let Ending::Refused(cause) = ending {
             self.has_fault = true;
             self.refused = self.refused.saturating_add(1);
-            if self.refused == 1 {
+            if self.first.is_none() {
+                let (word, cause) = (self.word.as_slice(), cause.text.as_bytes());
                 self.first = Some(WordRefusal {
-                    line: RefusedLine::new(self.line, self.word.as_slice(), cause_of(reply)),
+                    line: RefusedLine::new(self.line, word, cause),
                     byte: self.start,
                 });
             }
         }
     }
 
-    /// Records the outcome of a word with this ending and reply, unless it stays and is not a numeral.
-    fn note<L: Ledger>(
-        &mut self,
-        rule: &ConvertRule,
-        ending: Ending,
-        reply: &[u8],
-        steps: &mut Steps<L>,
-    )
+    /// Records the outcome and the error of a word with this ending, if outcomes are kept.
+    fn note<L: Ledger>(&mut self, rule: &ConvertRule, ending: Ending, steps: &mut Steps<L>)
         ensures word { self.new.word ≡ self.old.word }
         ensures fault { self.new.has_fault ≡ self.old.has_fault }
         ensures refused { self.new.refused ≡ self.old.refused }
         ensures first { self.new.first ≡ self.old.first }
         ensures place { IsAtSamePlace self.old self.new }
-        ensures unasked { self.old.errors ≡ None → IsNotedAlike self.old self.new }
+        ensures noted { NotesWord rule.now ending self.old.line self.old.word self.old.tally self.old.errors
+            self.new.tally self.new.errors }
     {
-        if let Some(errors) = &mut self.errors {
-            let word = self.word.as_slice();
-            let outcome = match ending {
-                Ending::Converted => outcome_of(rule.settings(), word, steps),
-                Ending::Refused => Outcome::Refused,
-                Ending::Left if is_overflow(reply) => Outcome::Overflowed,
-                Ending::Left => return,
-            };
-            self.tally.note(self.line, outcome);
-            if has_error(rule.settings().spelling, outcome) {
-                errors.add(word, self.line, steps);
+        let Some(errors) = &mut self.errors else {
+            return;
+        };
+        let word = self.word.as_slice();
+        match noted_outcome(rule, ending, word, steps) {
+            None => (),
+            Some(outcome) => {
+                self.tally.note(self.line, outcome);
+                add_error(rule, self.line, word, outcome, errors, steps);
             }
         }
     }
 
-    /// Puts a line of rejects for the word, which has this ending and reply, if it is refused: the number of its line,
-    /// its position there, the word and the cause.
-    fn reject<J: Sink>(&self, ending: Ending, reply: &[u8], rejects: &mut Rejects<'_, J>) {
-        if is_refused(ending) {
+    /// Puts a line of rejects for the word, which has this ending, if it is refused: the number of its line, its
+    /// position there, the word and the cause.
+    fn reject<J: Sink>(&self, ending: Ending, rejects: &mut Rejects<'_, J>)
+        ensures puts { PutsReject ending (name_of rejects.old) (start_of self.now) self.now.word
+            (sight_of J.written J.failures rejects.old) (sight_of J.written J.failures rejects.new) }
+        ensures name { rejects.new.name ≡ rejects.old.name }
+    {
+        if let Ending::Refused(cause) = ending {
             let word = self.word.as_slice();
-            rejects.put(self.line, Some(self.start), word, cause_of(reply));
+            rejects.put(self.line, Some(self.start), word, cause.text.as_bytes());
         }
     }
 
     /// Appends a byte of a word. Bytes past the greatest length of a record are dropped.
     fn keep(&mut self, byte: u8)
-        ensures word { (rest : List ℕ) → IsKept rest self.old.word → IsKept (rest ++ byte ∷ []) self.new.word }
+        ensures word { (word : List ℕ) → self.old.word ≡ kept_word word
+            → self.new.word ≡ kept_word (word ++ byte ∷ []) }
         ensures fault { self.new.has_fault ≡ self.old.has_fault }
-        ensures refused { self.new.refused ≡ self.old.refused }
-        ensures first { self.new.first ≡ self.old.first }
         ensures place { IsAtSamePlace self.old self.new }
+        ensures told { IsToldAlike self.old self.new }
     {
         if self.word.len() < MAX_RECORD {
             self.word.push(byte);
@@ -172,19 +208,21 @@ impl Words {
     ) -> Result<(), Failed>
         requires some { 0 < length self.old.word }
         requires end { length end.now ≤ 1 }
+        ensures tells { TellsWord rule.now (start_of self.old) self.old.word
+            (told_of J.written J.failures self.old rejects.old) (told_of J.written J.failures self.new rejects.new) }
+        ensures place { IsAtSamePlace self.old self.new }
         ensures ok { OnOk result (EndsWord rule.now self.old.word end.now self.old self.new
             (Puts (I.seen out.old.io) (I.seen out.new.io) out.old.text out.new.text)) }
         ensures err { OnErr result (EndsWord rule.now self.old.word end.now self.old self.new
             (Breaks (I.seen out.old.io) (I.seen out.new.io) out.old.text)) }
     {
         let mut reply: TextBuffer<MAX_ANSWER> = TextBuffer::new();
-        let is_fault = rule
-            .rule
-            .push_reply(self.word.as_slice(), &mut reply, steps);
-        let ending = ending_of(rule, self.word.as_slice(), reply.as_bytes(), is_fault);
-        self.count(ending, reply.as_bytes());
-        self.note(&rule.rule, ending, reply.as_bytes(), steps);
-        self.reject(ending, reply.as_bytes(), rejects);
+        let word = self.word.as_slice();
+        let replied = rule.rule.reply_or_refuse(word, &mut reply, steps);
+        let ending = ending_of(rule, word, &replied);
+        self.reject(ending, rejects);
+        self.count(ending);
+        self.note(&rule.rule, ending, steps);
         put_shown(rule, ending, &mut self.word, reply.as_bytes(), end, out)
     }
 
@@ -199,6 +237,9 @@ impl Words {
     ) -> Result<(), Failed>
         requires { length end.now ≤ 1 }
         ensures word { self.new.word ≡ [] }
+        ensures tells { TellsWord rule.now (start_of self.old) self.old.word
+            (told_of J.written J.failures self.old rejects.old) (told_of J.written J.failures self.new rejects.new) }
+        ensures place { IsAtSamePlace self.old self.new }
         ensures ok { OnOk result (EndsWord rule.now self.old.word end.now self.old self.new
             (Puts (I.seen out.old.io) (I.seen out.new.io) out.old.text out.new.text)) }
         ensures err { OnErr result (EndsWord rule.now self.old.word end.now self.old self.new
@@ -221,6 +262,9 @@ impl Words {
         out: &mut Gathered<I>,
         steps: &mut Steps<L>,
     ) -> Result<(), Failed>
+        ensures tells { TellsIfEnded (is_separator rule.now.separators.now byte) rule.now self.old
+            (told_of J.written J.failures self.old rejects.old) (told_of J.written J.failures self.new rejects.new) }
+        ensures place { IsAtSamePlace self.old self.new }
         ensures ok { OnOk result (Takes rule.now byte self.old self.new
             (Puts (I.seen out.old.io) (I.seen out.new.io) out.old.text out.new.text)) }
         ensures err { OnErr result (Takes rule.now byte self.old self.new
@@ -236,7 +280,7 @@ impl Words {
     /// Moves to the position after a byte.
     fn pass(&mut self, byte: u8)
         ensures passes { Passes byte self.old self.new }
-        ensures noted { IsNotedAlike self.old self.new }
+        ensures told { IsToldAlike self.old self.new }
     {
         if byte == b'\n' {
             self.line = self.line.saturating_add(1);
@@ -259,8 +303,10 @@ impl Words {
         steps: &mut Steps<L>,
     ) -> Result<(), Failed>
         ensures ok { OnOk result (TakesByte rule.now byte self.old self.new
+            (told_of J.written J.failures self.old rejects.old) (told_of J.written J.failures self.new rejects.new)
             (Puts (I.seen out.old.io) (I.seen out.new.io) out.old.text out.new.text)) }
         ensures err { OnErr result (TakesByte rule.now byte self.old self.new
+            (told_of J.written J.failures self.old rejects.old) (told_of J.written J.failures self.new rejects.new)
             (Breaks (I.seen out.old.io) (I.seen out.new.io) out.old.text)) }
     {
         let result = self.take(rule, byte, rejects, out, steps);
@@ -286,7 +332,7 @@ impl<'a, 'n, J: Sink + Drop, L: Ledger> Pieces<L> for WordBytes<'a, 'n, J> {
 
     type Stop = Infallible;
 
-    ghost Makes = { MakesBy };
+    ghost Makes = { MakesBy J.written J.failures };
 
     ghost ends = { is_piece };
 
@@ -340,7 +386,7 @@ impl<'a, 'n, J: Sink + Drop, L: Ledger> Pieces<L> for WordBytes<'a, 'n, J> {
         }
     }
 
-    ghost one_law = { made_one };
+    ghost one_law = { made_one J.written J.failures };
 
     ghost stop_law = { λ first last bytes more text spent why stopped. stopped };
 }

@@ -1,6 +1,6 @@
 -- A text is cut into words in one way, and is converted to one text.
 use Rattle.std.proofs.Common.{◌≡◌, ◌∙◌, ◌||◌, ℕ, Bool, true, false, List, [], ◌∷◌, ◌++◌, refl, sym, ap, subst}
-use Rattle.std.proofs.Common.{append_assoc, true≢false}
+use Rattle.std.proofs.Common.{Option, append_assoc, true≢false}
 use Rattle.std.specs.declared.convert.Infallible.{Infallible}
 use Rattle.line_engine.specs.AnswerText.{AnswerText}
 use Rattle.run_engine.specs.Machines.{Agree, How, going, finished, lacking, stopped}
@@ -93,25 +93,26 @@ worded_one s bytes a b x y =
     ap (λ t. made t a.fault) text ∙ ap (λ f. made b.text f) fault
 
 -- a machine makes one text of some bytes
-pub made_one : {J : Type 0} (first a b : WordBytes J) (bytes made other : List ℕ) (spent cost : ℕ) (how
-    then : How Infallible) → MakesBy first bytes made spent how a → MakesBy first bytes other cost then b
+pub made_one : {J : Type 0} (written : J → Option (List ℕ)) (failures : J → ℕ) (first a b : WordBytes J)
+    (bytes made other : List ℕ) (spent cost : ℕ) (how then : How Infallible)
+    → MakesBy written failures first bytes made spent how a → MakesBy written failures first bytes other cost then b
     → Agree how made then other
-made_one first a b bytes made other spent cost going going p q =
+made_one written failures first a b bytes made other spent cost going going p q =
     let x = p.1 in
     let y = q.1 in
     let parts = parts_one first.rule.now x.words y.words x.rest y.rest x.are y.are x.unbroken y.unbroken
     (sym x.cut ∙ y.cut) in
     x.text_is ∙ ap written_of parts.words ∙ sym y.text_is
-made_one first a b bytes made other spent cost going (finished g) p q = tt
-made_one first a b bytes made other spent cost going lacking p q = tt
-made_one first a b bytes made other spent cost going (stopped late t) p q = absurd q.1
-made_one first a b bytes made other spent cost (finished f) going p q = tt
-made_one first a b bytes made other spent cost (finished f) (finished g) p q =
+made_one written failures first a b bytes made other spent cost going (finished g) p q = tt
+made_one written failures first a b bytes made other spent cost going lacking p q = tt
+made_one written failures first a b bytes made other spent cost going (stopped late t) p q = absurd q.1
+made_one written failures first a b bytes made other spent cost (finished f) going p q = tt
+made_one written failures first a b bytes made other spent cost (finished f) (finished g) p q =
     let x : AnswerText = record { text = made; fault = f } in
     let y : AnswerText = record { text = other; fault = g } in
     let same : x ≡ y = worded_one first.rule.now bytes x y p.1.worded q.1.worded in
     (ap (λ (r : AnswerText). r.text) same, ap (λ (r : AnswerText). r.fault) same)
-made_one first a b bytes made other spent cost (finished f) lacking p q = tt
-made_one first a b bytes made other spent cost (finished f) (stopped late t) p q = absurd q.1
-made_one first a b bytes made other spent cost lacking then p q = absurd p.1
-made_one first a b bytes made other spent cost (stopped late s) then p q = absurd p.1
+made_one written failures first a b bytes made other spent cost (finished f) lacking p q = tt
+made_one written failures first a b bytes made other spent cost (finished f) (stopped late t) p q = absurd q.1
+made_one written failures first a b bytes made other spent cost lacking then p q = absurd p.1
+made_one written failures first a b bytes made other spent cost (stopped late s) then p q = absurd p.1

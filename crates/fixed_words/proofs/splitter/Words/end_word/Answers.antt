@@ -1,8 +1,13 @@
 use Rattle.std.proofs.Common.{refl}
 use Rattle.std.proofs.lemmas.Result.{on_err_weaker, on_ok_weaker}
 use Rattle.run_engine.specs.Seen.{Breaks, Puts}
-use Rattle.fixed_words.proofs.WordLemmas.{ends_none, ends_same}
+use Rattle.fixed_words.proofs.WordLemmas.{ends_none, ends_same, tells_none}
+use Rattle.fixed_words.specs.Inner.Progress.{start_of}
 use Rattle.fixed_words.proofs.splitter.Words.end_word.Goals as goal
+
+pub returns-then-is_empty-clause-tells : goal.returns-then-is_empty-clause-tells
+returns-then-is_empty-clause-tells g c =
+    tells_none c.args.rule.now (start_of c.args.self.now) c.args.self.now.word _ (c.is_empty.ensures.none.0 c.if-is_empty.true)
 
 pub returns-then-is_empty-clause-ok : goal.returns-then-is_empty-clause-ok
 returns-then-is_empty-clause-ok g c =
@@ -20,7 +25,7 @@ returns-clause-ok g c =
     let mid = it.new.self in
     on_ok_weaker it.result (ends_same c.args.rule.now c.args.self.now.word c.args.end.now c.args.self.now mid
     (record { word = c.clear.new.self; has_fault = mid.has_fault; line = mid.line; byte = mid.byte; start = mid.start; refused = mid.refused; first = mid.first; errors = mid.errors; tally = mid.tally })
-    (Puts (g.I.Streams.seen c.args.out.now.io) (g.I.Streams.seen it.new.out.io) c.args.out.now.text it.new.out.text) refl refl refl (record { line = refl; byte = refl; start = refl })) it.ensures.ok
+    (Puts (g.I.Streams.seen c.args.out.now.io) (g.I.Streams.seen it.new.out.io) c.args.out.now.text it.new.out.text) refl) it.ensures.ok
 
 pub returns-clause-err : goal.returns-clause-err
 returns-clause-err g c =
@@ -28,4 +33,4 @@ returns-clause-err g c =
     let mid = it.new.self in
     on_err_weaker it.result (ends_same c.args.rule.now c.args.self.now.word c.args.end.now c.args.self.now mid
     (record { word = c.clear.new.self; has_fault = mid.has_fault; line = mid.line; byte = mid.byte; start = mid.start; refused = mid.refused; first = mid.first; errors = mid.errors; tally = mid.tally })
-    (Breaks (g.I.Streams.seen c.args.out.now.io) (g.I.Streams.seen it.new.out.io) c.args.out.now.text) refl refl refl (record { line = refl; byte = refl; start = refl })) it.ensures.err
+    (Breaks (g.I.Streams.seen c.args.out.now.io) (g.I.Streams.seen it.new.out.io) c.args.out.now.text) refl) it.ensures.err
