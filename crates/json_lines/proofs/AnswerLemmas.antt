@@ -1,5 +1,5 @@
 -- The answer to a line, from piece to piece.
-use Rattle.std.proofs.Common.{◌≡◌, ◌⊎◌, ◌↔◌, ◌∙◌, ◌==◌, ◌&&◌, ◌||◌, ◌+◌, ◌-◌, ◌<◌, ◌≤◌, ◌∷◌, ◌++◌, [], ℕ, zero, suc, Bool, true, false, IsTrue, List, ap, append-nil, append_assoc, arith, codes, drop, length, length-drop, lit≤, not, refl, subst, sym, take, true≢false}
+use Rattle.std.proofs.Common.{◌≡◌, ◌⊎◌, ◌↔◌, ◌∙◌, ◌==◌, ◌||◌, ◌+◌, ◌-◌, ◌<◌, ◌≤◌, ◌∷◌, ◌++◌, [], ℕ, zero, suc, Bool, true, false, IsTrue, List, ap, append-nil, append_assoc, arith, codes, drop, length, length-drop, lit≤, map, not, refl, subst, sym, take, true≢false}
 use Rattle.std.proofs.lemmas.Bool.{le-leb, lt-leb}
 use Rattle.std.proofs.lemmas.List.{drop-drop, drop_all, length-take, take_all}
 use Rattle.fixed_command.specs.Layout.{is_skipped}
@@ -9,11 +9,14 @@ use Rattle.line_engine.specs.Lines.{kept_length}
 use Rattle.json_lines.specs.Answers.{AfterReply, AnswersFrom, AnswersPiece, AnswersShort, AnswersValues, IsJson, IsJsonAnswer, IsValueReply, RefusesLine, accepted, exchanged, fault_text, fitted, kept, line_end, longest, onto, opens, refusal}
 use Rattle.json_lines.specs.Inner.Made.{IsHeld, IsMade, IsReplied, IsWhole, is_refused}
 use Rattle.json_lines.specs.Inner.Tracked.{Tracks}
-use Rattle.json_lines.specs.Path.{PathStep}
+use Rattle.json_lines.specs.Path.{PathStep, step_of}
 use Rattle.json_lines.specs.Pieces.{after_piece, first_piece, head, piece_length}
 use Rattle.json_lines.specs.Places.{Frame, after, is_at}
+use Rattle.json_lines.specs.declared.task.JsonTask.{JsonTask}
+use Rattle.column_engine.specs.declared.watch.FieldPlace.{FieldPlace}
+use Rattle.json_lines.specs.Told.{SeesAfter, SeesFrom, SeesLineValues, SeesNone, SeesPiece, SeesReply, SeesShort, SeesValues, Sight, end_refused, fitted_refusal, value_place}
 use Rattle.json_lines.specs.declared.answer.Refused.{Refused}
-use Rattle.json_lines.specs.declared.answer.Refused.TheVariants.{Line, No}
+use Rattle.json_lines.specs.declared.answer.Refused.TheVariants.{Line, No, Value}
 use Rattle.json_lines.specs.declared.fault.JsonFault.{JsonFault}
 use Rattle.json_lines.specs.declared.place.Place.{Place}
 use Rattle.json_lines.specs.declared.task.Form.{Form}
@@ -71,6 +74,15 @@ pub fit_long : (whole : AnswerText) (held made : List ℕ) (refused : Refused) �
     → IsMade (fitted whole) made (Line AnswerTooLong)
 fit_long whole held made refused is long made_is =
     subst (λ a. IsMade a made (Line AnswerTooLong)) (sym (fitted_long whole (held_long kept_length longest whole.text held is.text_is long))) (record { text_is = made_is; fault = refl })
+
+pub fit_stays : (whole : AnswerText) (held : List ℕ) (refused : Refused) → IsHeld whole held refused → length held ≤ longest → refused ≡ fitted_refusal whole refused
+fit_stays whole held refused is short =
+    let few : length held < kept_length = omega (arith, short) in
+    let text : held ≡ whole.text = held_short kept_length whole.text held is.text_is few in
+    rw (le-leb (length whole.text) longest (omega (arith, short, ap length text))) refl
+
+pub fit_refuses : (whole : AnswerText) (held : List ℕ) (refused : Refused) → IsHeld whole held refused → longest < length held → Line AnswerTooLong ≡ fitted_refusal whole refused
+fit_refuses whole held refused is long = rw (lt-leb (length whole.text) longest (held_long kept_length longest whole.text held is.text_is long)) refl
 
 -- ---- texts before an answer
 onto_none_by : (text : List ℕ) (fault : Bool) → onto [] (record { text = text; fault = fault }) ≡ record { text = text; fault = fault }
@@ -280,6 +292,120 @@ module _ (steps : List PathStep) (quotes : Bool) (A : List ℕ → AnswerText �
     held = record { text_is = made ∙ sym (take_all kept_length (codes "error: " ++ fault_text NoValue) (omega (arith, fault_short NoValue))); fault = refl };
   }
 
+-- ---- what an observer is told, from piece to piece
+module _ {W : Type 0} (steps : List PathStep) (A : List ℕ → AnswerText → Type 0) (Saw : Sight W) (number : ℕ) where
+  sees_piece : (n : ℕ) (frames : List Frame) (found : Bool) (at : ℕ) (bytes : List ℕ) (watch : W) (refused : Refused) (last : W) → 0 < length bytes → length bytes ≤ n
+      → SeesPiece (is_at steps frames (first_piece bytes) (after_piece bytes)) A Saw (value_place number at (first_piece bytes)) (first_piece bytes) (Value at (at + piece_length bytes))
+      (SeesFrom steps A Saw number (n - 1) (after frames (first_piece bytes) (after_piece bytes)) (found || is_at steps frames (first_piece bytes) (after_piece bytes)) (at + piece_length bytes) (after_piece bytes)) watch refused last
+      → SeesFrom steps A Saw number n frames found at bytes watch refused last
+  unfolding SeesFrom
+  sees_piece n frames found at [] watch refused last some few is = absurd (omega (arith, some))
+  sees_piece zero frames found at (b ∷ bytes) watch refused last some few is = absurd (omega (arith, few))
+  sees_piece (suc n) frames found at (b ∷ bytes) watch refused last some few is =
+      let same : suc n - 1 ≡ n = omega arith in
+      let line : List ℕ = b ∷ bytes in
+      subst (λ m. SeesPiece (is_at steps frames (first_piece line) (after_piece line)) A Saw (value_place number at (first_piece line)) (first_piece line) (Value at (at + piece_length line))
+      (SeesFrom steps A Saw number m (after frames (first_piece line) (after_piece line)) (found || is_at steps frames (first_piece line) (after_piece line)) (at + piece_length line) (after_piece line)) watch refused last) same is
+
+  sees_end : (n : ℕ) (frames : List Frame) (found : Bool) (at : ℕ) (bytes : List ℕ) (watch : W) → bytes ≡ [] → SeesFrom steps A Saw number n frames found at bytes watch (end_refused found) watch
+  unfolding SeesFrom
+  sees_end n frames found at [] watch none = (refl, refl)
+  sees_end n frames found at (b ∷ bytes) watch none = let no : ⊥ = cc in absurd no
+
+  -- what was told of the bytes before an index
+  pub record Told (line : List ℕ) (at : ℕ) (frames : List Frame) (found : Bool) (first watch : W) : Type 0 where
+    pub most : ℕ
+    pub few : length (drop at line) ≤ most
+    pub goes : (refused : Refused) (last : W) → SeesFrom steps A Saw number most frames found at (drop at line) watch refused last → SeesFrom steps A Saw number (length line) [] false 0 line first refused last
+
+  pub told_none : (line : List ℕ) (first : W) → Told line 0 [] false first first
+  told_none line first = record { most = length line; few = omega arith; goes = λ refused last is. is }
+
+  module _ (quotes : Bool) (line : List ℕ) (at end : ℕ) (frames : List Frame) (found : Bool) (first watch : W) (piece rest : List ℕ) (here : IsPiece steps quotes A line at end piece rest) (end_is : end ≡ at + piece_length (drop at line))
+      (told : Told line at frames found first watch) where
+    abbrev After : ℕ → List ℕ → List ℕ → Bool → List ℕ → W → Refused → W → Type 0
+    After e p r b bytes = SeesFrom steps A Saw number (told.most - 1) (after frames p r) b e bytes
+
+    tells : (refused : Refused) (last : W) → SeesPiece (is_at steps frames piece rest) A Saw (value_place number at piece) piece (Value at end) (After end piece rest (found || is_at steps frames piece rest) rest) watch refused last
+        → SeesFrom steps A Saw number (length line) [] false 0 line first refused last
+    tells refused last is = told.goes refused last (sees_piece told.most frames found at (drop at line) watch refused last here.some told.few
+        (subst (λ e. SeesPiece (is_at steps frames (first_piece (drop at line)) (after_piece (drop at line))) A Saw (value_place number at (first_piece (drop at line))) (first_piece (drop at line)) (Value at e)
+        (After e (first_piece (drop at line)) (after_piece (drop at line)) (found || is_at steps frames (first_piece (drop at line)) (after_piece (drop at line))) (after_piece (drop at line))) watch refused last) end_is
+        (subst (λ p. SeesPiece (is_at steps frames p (after_piece (drop at line))) A Saw (value_place number at p) p (Value at end)
+        (After end p (after_piece (drop at line)) (found || is_at steps frames p (after_piece (drop at line))) (after_piece (drop at line))) watch refused last) here.piece_is
+        (subst (λ r. SeesPiece (is_at steps frames piece r) A Saw (value_place number at piece) piece (Value at end) (After end piece r (found || is_at steps frames piece r) r) watch refused last) here.rest_is is))))
+
+    fewer : length (drop end line) ≤ told.most - 1
+    fewer = omega (arith, told.few, here.shorter, ap length here.end_is)
+
+    pub told_stays : is_at steps frames piece rest ≡ false → Told line end (after frames piece rest) found first watch
+    told_stays is = record {
+      most = told.most - 1;
+      few = fewer;
+      goes = λ refused last from. tells refused last
+          (subst (λ b. SeesPiece b A Saw (value_place number at piece) piece (Value at end) (After end piece rest (found || b) rest) watch refused last) (sym is)
+          (subst (λ f. After end piece rest f rest watch refused last) (sym (or_false found)) (subst (λ r. After end piece rest found r watch refused last) (sym here.end_is) from)));
+    }
+
+    pub told_value : (next : W) → is_at steps frames piece rest ≡ true → SeesReply A Saw (value_place number at piece) piece false watch next → Told line end (after frames piece rest) true first next
+    told_value next is one = record {
+      most = told.most - 1;
+      few = fewer;
+      goes = λ refused last from. tells refused last
+          (subst (λ b. SeesPiece b A Saw (value_place number at piece) piece (Value at end) (After end piece rest (found || b) rest) watch refused last) (sym is) (
+            one.0,
+            one.1,
+            next,
+            one.2,
+            subst (λ f. SeesAfter f (Value at end) (After end piece rest (found || true) rest) next refused last) (sym one.3)
+                (subst (λ f. After end piece rest f rest next refused last) (sym (or_true found)) (subst (λ r. After end piece rest true r next refused last) (sym here.end_is) from)),
+          ));
+    }
+
+    pub told_refused : (last : W) → is_at steps frames piece rest ≡ true → SeesReply A Saw (value_place number at piece) piece true watch last → SeesFrom steps A Saw number (length line) [] false 0 line first (Value at end) last
+    told_refused last is one = tells (Value at end) last
+        (subst (λ b. SeesPiece b A Saw (value_place number at piece) piece (Value at end) (After end piece rest (found || b) rest) watch (Value at end) last) (sym is) (
+          one.0,
+          one.1,
+          last,
+          one.2,
+          subst (λ f. SeesAfter f (Value at end) (After end piece rest (found || true) rest) last (Value at end) last) (sym one.3) (refl, refl),
+        ))
+
+  pub told_end : (line : List ℕ) (at : ℕ) (frames : List Frame) (found : Bool) (first watch : W) → Told line at frames found first watch → length line ≤ at → SeesFrom steps A Saw number (length line) [] false 0 line first (end_refused found) watch
+  told_end line at frames found first watch told high = told.goes (end_refused found) watch (sees_end told.most frames found at (drop at line) watch (drop_all at line high))
+
+  -- the loop over the pieces of a line, with its observer
+  pub record Tells (quotes : Bool) (line : List ℕ) (at : ℕ) (place : Place) (found : Bool) (held : List ℕ) (first watch : W) : Type 0 where
+    pub goes : Goes steps quotes A line at place found held
+    pub told : Told line at goes.frames found first watch
+
+  pub tells_none : (quotes : Bool) (line : List ℕ) (place : Place) (held : List ℕ) (first : W) → Tracks steps [] place → held ≡ [] → Tells quotes line 0 place false held first first
+  unfolding goes_none
+  tells_none quotes line place held first tracks none = record { goes = goes_none steps quotes A line place held tracks none; told = told_none line first }
+
+  pub tells_stays : (quotes : Bool) (line : List ℕ) (at end : ℕ) (place later : Place) (found : Bool) (held held' : List ℕ) (first watch : W) (piece rest : List ℕ) (here : IsPiece steps quotes A line at end piece rest)
+      → end ≡ at + piece_length (drop at line) → (t : Tells quotes line at place found held first watch) → end ≤ length line → later.depth ≤ place.depth + 1 → at < end → is_at steps t.goes.frames piece rest ≡ false
+      → Tracks steps (after t.goes.frames piece rest) later → held' ≡ take kept_length (held ++ piece) → Tells quotes line end later found held' first watch
+  unfolding goes_stays
+  tells_stays quotes line at end place later found held held' first watch piece rest here end_is t within depth more is tracks held_is = record {
+    goes = goes_stays steps quotes A line at end place later found held held' piece rest here t.goes within depth more is tracks held_is;
+    told = told_stays quotes line at end t.goes.frames found first watch piece rest here end_is t.told is;
+  }
+
+  pub tells_value : (quotes : Bool) (line : List ℕ) (at end : ℕ) (place later : Place) (found : Bool) (held held' : List ℕ) (first watch next : W) (piece rest : List ℕ) (here : IsPiece steps quotes A line at end piece rest)
+      → end ≡ at + piece_length (drop at line) → (t : Tells quotes line at place found held first watch) → end ≤ length line → later.depth ≤ place.depth + 1 → at < end → is_at steps t.goes.frames piece rest ≡ true
+      → Tracks steps (after t.goes.frames piece rest) later → IsReplied A quotes piece false held held' → SeesReply A Saw (value_place number at piece) piece false watch next → Tells quotes line end later true held' first next
+  unfolding goes_value
+  tells_value quotes line at end place later found held held' first watch next piece rest here end_is t within depth more is tracks one seen = record {
+    goes = goes_value steps quotes A line at end place later found held held' piece rest here t.goes within depth more is tracks one;
+    told = told_value quotes line at end t.goes.frames found first watch piece rest here end_is t.told next is seen;
+  }
+
+  pub seen_as : (place place' : FieldPlace) (piece : List ℕ) (a b : Bool) (watch next next' : W) → place ≡ place' → a ≡ b → next' ≡ next → SeesReply A Saw place piece a watch next → SeesReply A Saw place' piece b watch next'
+  seen_as place place' piece a b watch next next' same refused later seen =
+      subst (λ q. SeesReply A Saw q piece b watch next') same (subst (λ f. SeesReply A Saw place piece f watch next') refused (subst (λ o. SeesReply A Saw place piece a watch o) (sym later) seen))
+
 -- ---- the answer to a line
 module _ (steps : List PathStep) (form : Form) (A : List ℕ → AnswerText → Type 0) where
   pub too_long : (line : List ℕ) → longest < length line → IsJsonAnswer steps form A line (refusal LineTooLong)
@@ -298,6 +424,23 @@ module _ (steps : List PathStep) (form : Form) (A : List ℕ → AnswerText → 
   pub read_line : (line : List ℕ) (read : AnswerText) → length line ≤ longest → (is_skipped form.layout.now line) ≡ false
       → (RefusesLine line read ⊎ AnswersValues steps form.quotes A line read) → IsJsonAnswer steps form A line (kept form.keeps line read)
   read_line line read short is answers = short_by line (kept form.keeps line read) false short is (read, answers, refl)
+
+-- what an observer is told of a line
+module _ {R W : Type 0} (task : JsonTask R) (A : List ℕ → AnswerText → Type 0) (Saw : Sight W) (number : ℕ) (line : List ℕ) (watch : W) where
+  pub sees_long : longest < length line → SeesLineValues task A Saw number line watch (Line LineTooLong) watch
+  sees_long long = subst (λ b. SeesShort b (is_skipped task.form.layout.now line) task A Saw number line watch (Line LineTooLong) watch) (sym (ap not (lt-leb (length line) longest long))) (refl, refl)
+
+  sees_by : (blank : Bool) (refused : Refused) (last : W) → length line ≤ longest → (is_skipped task.form.layout.now line) ≡ blank → SeesShort false blank task A Saw number line watch refused last → SeesLineValues task A Saw number line watch refused last
+  sees_by blank refused last short is sees =
+      subst (λ b. SeesShort b (is_skipped task.form.layout.now line) task A Saw number line watch refused last) (sym (ap not (le-leb (length line) longest short)))
+      (subst (λ b. SeesShort false b task A Saw number line watch refused last) (sym is) sees)
+
+  pub sees_skipped : length line ≤ longest → (is_skipped task.form.layout.now line) ≡ true → SeesLineValues task A Saw number line watch No watch
+  sees_skipped short is = sees_by true No watch short is (refl, refl)
+
+  pub sees_read : (refused : Refused) (last : W) → length line ≤ longest → (is_skipped task.form.layout.now line) ≡ false
+      → (SeesNone line watch refused last ⊎ SeesValues (map step_of task.steps.now) task.form.quotes A Saw number line watch refused last) → SeesLineValues task A Saw number line watch refused last
+  sees_read refused last short is sees = sees_by false refused last short is sees
 
 -- a refused line stays if that is asked, and an answered one does not
 pub kept_made : (keeps : Bool) (line text : List ℕ) (read : AnswerText) (refused : Refused) → keeps ≡ true → is_refused refused ≡ true → IsMade read text refused → IsMade (kept keeps line read) line refused

@@ -1,5 +1,6 @@
 -- Private to this crate:
 mod AnswerLemmas
+mod FitLemmas
 mod PathLemmas
 mod PieceLemmas
 mod PlaceLemmas

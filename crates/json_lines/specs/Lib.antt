@@ -2,6 +2,7 @@ pub mod Path
 pub mod Pieces
 pub mod Places
 pub mod Answers
+pub mod Told
 pub mod Run
 pub mod Inner
 pub mod Laws

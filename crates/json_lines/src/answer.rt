@@ -1,12 +1,15 @@
 //! The answer to a line: the values at a path exchanged for the replies of a rule, and every other byte as it was.
 
-ghost use Rattle.std.specs.Prelude.{◌≡◌, ◌≤◌, ◌↔◌, ◌&&◌, ◌⊎◌, ◌++◌, [], IfOk, IsTrue, OnOk, codes, false, length, map};
-ghost use Rattle.std.specs.Prelude.{take};
+ghost use Rattle.std.specs.Prelude.{◌≡◌, ◌≤◌, ◌↔◌, ◌&&◌, ◌⊎◌, ◌++◌, [], IfOk, IsTrue, OnErr, OnOk, codes, false};
+ghost use Rattle.std.specs.Prelude.{length, map, take};
 ghost use Rattle.json_lines.specs.Answers.{AnswersValues, IsJson, IsJsonAnswer, IsValueReply, RefusesLine};
 ghost use Rattle.json_lines.specs.Answers.{exchanged, fault_text, fitted, longest, opens};
 ghost use Rattle.json_lines.specs.Inner.Made.{IsHeld, IsMade, IsReplied, IsWhole, is_refused};
 ghost use Rattle.line_engine.specs.AnswerText.{AnswerText};
 ghost use Rattle.json_lines.specs.Path.{step_of};
+ghost use Rattle.json_lines.specs.Pieces.{content};
+ghost use Rattle.json_lines.specs.Told.{HasReply, IsWithin, SeesFrom, SeesLineValues, SeesNone, SeesReply};
+ghost use Rattle.json_lines.specs.Told.{SeesValues, fitted_refusal, value_place};
 ghost use Rattle.line_engine.specs.Lines.{kept_length};
 
 use crate::fault::JsonFault;
@@ -113,8 +116,10 @@ fn push_exchanged(quotes: bool, piece: &[u8], reply: &[u8], answer: &mut LineBuf
 }
 
 /// Returns the position of the text of a value: of its line, from 1, and in it, from 0.
-fn place_of(number: u64, at: usize, piece: &[u8]) -> FieldPlace {
-    let before = usize::from(is_string(piece));
+fn place_of(number: u64, at: usize, piece: &[u8]) -> FieldPlace
+    ensures { result ≡ value_place number at piece.now }
+{
+    let before = if is_string(piece) { 1 } else { 0 };
     FieldPlace {
         record: number,
         line: number,
@@ -137,6 +142,10 @@ fn reply_to<A: FieldRule<L>, W: FieldWatch<A, L>, L: Ledger>(
       fault = result;
     }) }
     ensures answer { space.new.answer ≡ space.old.answer }
+    ensures saw { W.Saw task.now.rule.now observer.old place (content piece.now) (record {
+      text = space.new.reply;
+      fault = result;
+    }) observer.new }
 {
     space.reply.clear();
     let value = content(piece);
@@ -171,8 +180,14 @@ fn answer_value<A: FieldRule<L>, W: FieldWatch<A, L>, L: Ledger>(
     steps: &mut Steps<L>,
 ) -> bool
     requires { length piece.now ≤ longest }
-    ensures { IsReplied (A.Answers task.now.rule.now) task.now.form.quotes piece.now result space.old.answer
+    ensures replied { IsReplied (A.Answers task.now.rule.now) task.now.form.quotes piece.now result space.old.answer
         space.new.answer }
+    ensures sees { SeesReply (A.Answers task.now.rule.now) (W.Saw task.now.rule.now) place piece.now result observer.old
+        observer.new }
+    ensures reply { IsValueReply (opens piece.now) (A.Answers task.now.rule.now) piece.now (record {
+      text = space.new.reply;
+      fault = result;
+    }) }
 {
     let is_refused = reply_to(task, place, piece, space, observer, steps);
     if is_refused {
@@ -199,8 +214,12 @@ fn answer_values<A: FieldRule<L>, W: FieldWatch<A, L>, L: Ledger>(
     steps: &mut Steps<L>,
 ) -> Refused
     requires { length line.now ≤ longest }
-    ensures { IsWhole (map step_of task.now.steps.now) task.now.form.quotes (A.Answers task.now.rule.now) line.now
+    ensures whole { IsWhole (map step_of task.now.steps.now) task.now.form.quotes (A.Answers task.now.rule.now) line.now
         space.new.answer result }
+    ensures sees { SeesFrom (map step_of task.now.steps.now) (A.Answers task.now.rule.now) (W.Saw task.now.rule.now)
+        number (length line.now) [] false 0 line.now observer.old result observer.new }
+    ensures reply { HasReply result (A.Answers task.now.rule.now) line.now space.new.reply }
+    ensures within { IsWithin result line.now }
 {
     space.answer.clear();
     let mut place = Place::new();
@@ -232,6 +251,7 @@ fn answer_values<A: FieldRule<L>, W: FieldWatch<A, L>, L: Ledger>(
 /// Refuses an answer that is too long.
 fn fit(refused: Refused, answer: &mut LineBuffer) -> Refused
     ensures made { (whole : AnswerText) → IsHeld whole answer.old refused → IsMade (fitted whole) answer.new result }
+    ensures refused { (whole : AnswerText) → IsHeld whole answer.old refused → result ≡ fitted_refusal whole refused }
     ensures short { length answer.new ≤ longest }
 {
     if answer.as_slice().len() > MAX_LINE {
@@ -255,6 +275,12 @@ fn answer_read<A: FieldRule<L>, W: FieldWatch<A, L>, L: Ledger>(
         ⊎ AnswersValues (map step_of task.now.steps.now) task.now.form.quotes (A.Answers task.now.rule.now) line.now
         read) × IsMade read space.new.answer refused) }
     ensures short { OnOk result (length space.new.answer ≤ longest) }
+    ensures sees { IfOk result (λ refused. SeesNone line.now observer.old refused observer.new
+        ⊎ SeesValues (map step_of task.now.steps.now) task.now.form.quotes (A.Answers task.now.rule.now)
+        (W.Saw task.now.rule.now) number line.now observer.old refused observer.new) }
+    ensures reply { IfOk result (λ refused. HasReply refused (A.Answers task.now.rule.now) line.now space.new.reply) }
+    ensures within { IfOk result (λ refused. IsWithin refused line.now) }
+    ensures lacks { OnErr result (observer.new ≡ observer.old) }
 {
     if !is_json(line, &mut space.json)? {
         refuse(JsonFault::NotJson, &mut space.answer);
@@ -278,6 +304,11 @@ pub fn answer_line<A: FieldRule<L>, W: FieldWatch<A, L>, L: Ledger>(
         × IsJsonAnswer (map step_of task.now.steps.now) task.now.form (A.Answers task.now.rule.now) line.now answer
         × IsMade answer space.new.answer refused) }
     ensures short { OnOk result (length space.new.answer ≤ longest) }
+    ensures sees { IfOk result (λ refused. SeesLineValues task.now (A.Answers task.now.rule.now)
+        (W.Saw task.now.rule.now) number line.now observer.old refused observer.new) }
+    ensures reply { IfOk result (λ refused. HasReply refused (A.Answers task.now.rule.now) line.now space.new.reply) }
+    ensures within { IfOk result (λ refused. IsWithin refused line.now) }
+    ensures lacks { OnErr result (observer.new ≡ observer.old) }
 {
     if line.len() > MAX_LINE {
         refuse(JsonFault::LineTooLong, &mut space.answer);

@@ -1,6 +1,6 @@
 //! Answers the lines of JSON of an input, over any source and any sink.
 
-ghost use Rattle.std.specs.Prelude.{◌≡◌, ◌⊎◌};
+ghost use Rattle.std.specs.Prelude.{◌≡◌, ◌⊎◌, None};
 ghost use Rattle.line_engine.specs.Program.{outside};
 ghost use Rattle.line_engine.specs.declared.status.Status.{Status};
 ghost use Rattle.fixed_command.specs.Limits.{limit_of};
@@ -50,14 +50,20 @@ pub fn run_json<'a, A: FieldRule<L>, W: FieldWatch<A, L> + Drop, S: Source, K: S
     sink: &mut K,
     steps: &mut Steps<L>,
 ) -> JsonEnd<W>
-    // The bytes read, made and written, by status; which count of failures rose; and what reads requested; or there was
-    // no memory before the first read.
-    ensures { ((source.new ≡ source.old) × (sink.new ≡ sink.old) × (result.status ≡ Status.NoMemory))
-        ⊎ HasJsonRun (λ rule. A.Answers rule) (limit_of limit.now) task.now
+    // The bytes read, made and written, by status; which count of failures rose; what reads requested; what the
+    // observer was told; and how many lines were refused, with the first of them; or there was no memory before the
+    // first read.
+    ensures { ((source.new ≡ source.old) × (sink.new ≡ sink.old) × (result.status ≡ Status.NoMemory)
+        × (result.refused ≡ 0) × (result.first ≡ None) × (result.observer ≡ observer))
+        ⊎ HasJsonRun (λ rule. A.Answers rule) (λ rule. W.Saw rule) (limit_of limit.now) task.now
         (outside (S.left source.old) (S.asked source.old) (S.failures source.old) (K.written sink.old)
         (K.failures sink.old) steps.old)
         (outside (S.left source.new) (S.asked source.new) (S.failures source.new) (K.written sink.new)
-        (K.failures sink.new) steps.new) result.status }
+        (K.failures sink.new) steps.new) result.status observer (record {
+          observer = result.observer;
+          refused = result.refused;
+          first = result.first;
+        }) }
 {
     match Room::new(alloc) {
         Err(_) => JsonEnd {

@@ -1,9 +1,13 @@
 //! Answers lines as the bytes of their input arrive.
 
-ghost use Rattle.std.specs.Prelude.{◌≡◌, ◌||◌, [], IfOk, false};
+ghost use Rattle.std.specs.Prelude.{◌≡◌, ◌≤◌, ◌||◌, ◌-◌, [], IfOk, false, length};
+ghost use Rattle.std.specs.Prelude.{take, true};
+ghost use Rattle.json_lines.specs.Answers.{fault_text, longest};
 ghost use Rattle.json_lines.specs.Inner.Made.{is_refused};
-ghost use Rattle.json_lines.specs.Inner.Progress.{LineEnds};
+ghost use Rattle.json_lines.specs.Inner.Progress.{LineEnds, NotesLine};
 ghost use Rattle.json_lines.specs.Run.{Answers};
+ghost use Rattle.json_lines.specs.Told.{IsStop, SeesLine, nothing_told, told_of};
+ghost use Rattle.line_engine.specs.Memory.{next_count};
 
 use crate::answer::{Refused, Space, answer_line};
 use crate::fault::JsonFault;
@@ -12,6 +16,7 @@ use crate::stop::stop_in;
 use crate::task::JsonTask;
 use column_engine::{FieldPlace, FieldRule, FieldWatch};
 use fixed_steps::Steps;
+use json::Scratch;
 use line_engine::{LineBuffer, MAX_LINE};
 use run_engine::{Gathered, Halt, Pieces, Streams, find_newline};
 use std::alloc::{AllocError, Global};
@@ -53,12 +58,44 @@ impl Room {
     }
 }
 
+/// Returns the place of a line that is refused as a whole, by where it stops being JSON, from 1, or 0.
+fn whole_place(number: u64, stop: u64) -> FieldPlace
+    ensures { result ≡ record { «record» = number; line = number; column = stop - 1 } }
+{
+    FieldPlace {
+        record: number,
+        line: number,
+        column: stop.saturating_sub(1) as usize,
+    }
+}
+
+/// Returns the first bytes of a line, as many as the longest may have.
+#[tactic(auto, using(std::proofs::lemmas::List::take_min))]
+fn first_bytes(line: &[u8]) -> &[u8]
+    ensures value { result.now ≡ take longest line.now }
+    ensures short { length result.now ≤ longest }
+{
+    &line[..MAX_LINE.min(line.len())]
+}
+
+/// Returns the position, from 1, at which a line that is refused since it is not JSON stops being so; else 0.
+fn stop_of(refused: Refused, line: &[u8], scratch: &mut Scratch) -> u64
+    ensures { IsStop refused line.now result }
+{
+    match refused {
+        Refused::Line(JsonFault::NotJson) => stop_in(line, scratch),
+        _ => 0,
+    }
+}
+
 impl<'a, A, W> JsonLines<'a, A, W> {
     /// The state before the first line.
     pub fn new(task: &'a JsonTask<'a, A>, room: Room, observer: W) -> JsonLines<'a, A, W>
         ensures task { result.task.now ≡ task.now }
         ensures line { result.line ≡ room.line }
         ensures fault { result.has_fault ≡ false }
+        ensures lines { result.refusals.lines ≡ 0 }
+        ensures told { told_of result ≡ nothing_told observer }
     {
         JsonLines {
             task,
@@ -81,14 +118,15 @@ impl<'a, A, W> JsonLines<'a, A, W> {
         ensures line { self.new.line ≡ self.old.line }
         ensures task { self.new.task ≡ self.old.task }
         ensures answer { self.new.space.answer ≡ self.old.space.answer }
+        ensures refusals { self.new.refusals ≡ self.old.refusals }
+        ensures saw { W.Saw self.old.task.now.rule.now self.old.observer (record {
+          «record» = number;
+          line = number;
+          column = stop - 1;
+        }) (take longest self.old.line) (record { text = fault_text fault; fault = true }) self.new.observer }
     {
-        let place = FieldPlace {
-            record: number,
-            line: number,
-            column: stop.saturating_sub(1) as usize,
-        };
-        let line = self.line.as_slice();
-        let shown = &line[..MAX_LINE.min(line.len())];
+        let place = whole_place(number, stop);
+        let shown = first_bytes(self.line.as_slice());
         let scratch = &mut self.space.scratch;
         self.observer.see(
             self.task.rule,
@@ -111,12 +149,11 @@ impl<'a, A, W> JsonLines<'a, A, W> {
         ensures line { self.new.line ≡ self.old.line }
         ensures task { self.new.task ≡ self.old.task }
         ensures answer { self.new.space.answer ≡ self.old.space.answer }
+        ensures lines { self.new.refusals.lines ≡ next_count self.old.refusals.lines }
+        ensures notes { NotesLine (W.Saw self.old.task.now.rule.now) refused self.old self.new }
     {
         let line = self.line.as_slice();
-        let stop = match refused {
-            Refused::Line(JsonFault::NotJson) => stop_in(line, &mut self.space.json),
-            _ => 0,
-        };
+        let stop = stop_of(refused, line, &mut self.space.json);
         self.refusals
             .note(refused, stop, line, self.space.reply.as_bytes());
         self.has_fault |= refused.is_refused();
@@ -136,8 +173,9 @@ impl<'a, A, W> JsonLines<'a, A, W> {
     where
         A: FieldRule<L>,
         W: FieldWatch<A, L>,
-        ensures { LineEnds (Answers (A.Answers self.old.task.now.rule.now) self.old.task.now) part.now self.old self.new
-            (I.seen out.old.io) (I.seen out.new.io) out.old.text out.new.text result }
+        ensures { LineEnds (Answers (A.Answers self.old.task.now.rule.now) self.old.task.now)
+            (SeesLine self.old.task.now (A.Answers self.old.task.now.rule.now) (W.Saw self.old.task.now.rule.now))
+            part.now self.old self.new (I.seen out.old.io) (I.seen out.new.io) out.old.text out.new.text result }
     {
         self.line.append(part);
         let number = self.refusals.lines().saturating_add(1);
@@ -170,8 +208,8 @@ impl<'a, A: FieldRule<L>, W: FieldWatch<A, L> + Drop, L: Ledger> Pieces<L> for J
 
     type Stop = Infallible;
 
-    ghost Makes = { λ first bytes text spent how last. MakesBy (A.Answers first.task.now.rule.now) first bytes text
-        spent how last };
+    ghost Makes = { λ first bytes text spent how last. MakesBy (A.Answers first.task.now.rule.now)
+        (W.Saw first.task.now.rule.now) first bytes text spent how last };
 
     ghost ends = { is_newline };
 
@@ -214,7 +252,8 @@ impl<'a, A: FieldRule<L>, W: FieldWatch<A, L> + Drop, L: Ledger> Pieces<L> for J
         }
     }
 
-    ghost one_law = { λ first. made_one (A.Answers first.task.now.rule.now) (A.one_law first.task.now.rule.now) first };
+    ghost one_law = { λ first. made_one (A.Answers first.task.now.rule.now) (W.Saw first.task.now.rule.now)
+        (A.one_law first.task.now.rule.now) first };
 
     ghost stop_law = { λ first last bytes more text spent why stopped. stopped };
 }

@@ -1,5 +1,9 @@
 //! Where a line stops being JSON, for a report.
 
+ghost use Rattle.std.specs.Prelude.{◌≡◌, ◌+◌, ◌-◌, ◌^◌, min};
+ghost use Rattle.std.specs.Str.{IsUtf8};
+ghost use Rattle.std.specs.Str.Lossy.{utf8_valid_len};
+
 use json::{MAX_DEPTH, Reader, Scratch, Token};
 use std::alloc::AllocError;
 
@@ -97,14 +101,23 @@ fn stop_of(text: &str, scratch: &mut Scratch) -> Result<usize, AllocError> {
     Ok(text.len())
 }
 
-/// Returns the position, from 1, at which a line that is not JSON stops being so; 0 if there is no memory.
-pub(crate) fn stop_in(line: &[u8], scratch: &mut Scratch) -> u64 {
-    let index = match std::str::from_utf8(line) {
-        Err(error) => error.valid_up_to(),
-        Ok(text) => match stop_of(text, scratch) {
-            Ok(index) => index,
-            Err(_) => return 0,
-        },
-    };
+/// Returns the position, from 1, of the byte with this index.
+fn position(index: usize) -> u64
+    ensures { result ≡ min (index + 1) (2 ^ 64 - 1) }
+{
     (index as u64).saturating_add(1)
+}
+
+/// Returns the position, from 1, at which a line that is not JSON stops being so: that of the first byte that is not
+/// UTF-8, if there is one; 0 if there is no memory.
+pub(crate) fn stop_in(line: &[u8], scratch: &mut Scratch) -> u64
+    ensures { ¬ IsUtf8 line.now → result ≡ utf8_valid_len line.now + 1 }
+{
+    match std::str::from_utf8(line) {
+        Err(error) => position(error.valid_up_to()),
+        Ok(text) => match stop_of(text, scratch) {
+            Ok(index) => position(index),
+            Err(_) => 0,
+        },
+    }
 }

@@ -14,6 +14,7 @@ use Rattle.json_lines.specs.Path.{PathStep}
 use Rattle.json_lines.specs.Pieces.{after_piece, first_piece}
 use Rattle.json_lines.specs.Places.{Frame, after, is_at}
 use Rattle.json_lines.specs.Run.{Answers, AnswersLines, MakesBy, MakesLines, Standing, standing_of}
+use Rattle.json_lines.specs.Told.{SeesLines, Sight}
 use Rattle.json_lines.specs.declared.splitter.JsonLines.{JsonLines}
 use Rattle.json_lines.specs.declared.task.Form.{Form}
 
@@ -90,26 +91,27 @@ lines_one B one ls made other f g x y =
     }
 
 -- a machine makes one text of some bytes
-made_by : (B : List ℕ → AnswerText → Type 0) → IsOne B → (a b : Standing) (bytes made other : List ℕ)
-    (how then : How Infallible) → MakesLines B bytes made how a → MakesLines B bytes other then b
-    → Agree how made then other
-made_by B one a b bytes made other going going p q =
+made_by : {W : Type 0} (B : List ℕ → AnswerText → Type 0) (Sees : ℕ → List (List ℕ) → W → W → Type 0) → IsOne B
+    → (first a b : Standing W) (bytes made other : List ℕ) (how then : How Infallible)
+    → MakesLines B Sees first bytes made how a → MakesLines B Sees first bytes other then b → Agree how made then other
+made_by B Sees one first a b bytes made other going going p q =
     (lines_one B one (ended_lines bytes) made other a.has_fault b.has_fault p.made q.made).text
-made_by B one a b bytes made other going (finished g) p q = tt
-made_by B one a b bytes made other going lacking p q = tt
-made_by B one a b bytes made other going (stopped late t) p q = absurd q
-made_by B one a b bytes made other (finished f) going p q = tt
-made_by B one a b bytes made other (finished f) (finished g) p q =
-    let same = lines_one B one (lines bytes) made other f g p q in
+made_by B Sees one first a b bytes made other going (finished g) p q = tt
+made_by B Sees one first a b bytes made other going lacking p q = tt
+made_by B Sees one first a b bytes made other going (stopped late t) p q = absurd q
+made_by B Sees one first a b bytes made other (finished f) going p q = tt
+made_by B Sees one first a b bytes made other (finished f) (finished g) p q =
+    let same = lines_one B one (lines bytes) made other f g p.0 q.0 in
     (same.text, same.fault)
-made_by B one a b bytes made other (finished f) lacking p q = tt
-made_by B one a b bytes made other (finished f) (stopped late t) p q = absurd q
-made_by B one a b bytes made other lacking then p q = tt
-made_by B one a b bytes made other (stopped late s) then p q = absurd p
+made_by B Sees one first a b bytes made other (finished f) lacking p q = tt
+made_by B Sees one first a b bytes made other (finished f) (stopped late t) p q = absurd q
+made_by B Sees one first a b bytes made other lacking then p q = tt
+made_by B Sees one first a b bytes made other (stopped late s) then p q = absurd p
 
-pub made_one : {R W : Type 0} (A : List ℕ → AnswerText → Type 0) → IsOne A → (first a b : JsonLines R W)
-    (bytes made other : List ℕ) (spent cost : ℕ) (how then : How Infallible) → MakesBy A first bytes made spent how a
-    → MakesBy A first bytes other cost then b → Agree how made then other
-made_one A one first a b bytes made other spent cost how then p q =
-    made_by (Answers A first.task.now) (json_answer_one _ first.task.now.form A one) (standing_of a)
-    (standing_of b) bytes made other how then p.1 q.1
+pub made_one : {R W : Type 0} (A : List ℕ → AnswerText → Type 0) (Saw : Sight W) → IsOne A
+    → (first a b : JsonLines R W) (bytes made other : List ℕ) (spent cost : ℕ) (how then : How Infallible)
+    → MakesBy A Saw first bytes made spent how a → MakesBy A Saw first bytes other cost then b
+    → Agree how made then other
+made_one A Saw one first a b bytes made other spent cost how then p q =
+    made_by (Answers A first.task.now) (SeesLines first.task.now A Saw) (json_answer_one _ first.task.now.form A one)
+    (standing_of first) (standing_of a) (standing_of b) bytes made other how then p.1 q.1
