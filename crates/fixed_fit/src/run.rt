@@ -5,7 +5,6 @@ ghost use Rattle.fixed_numeral.specs.Numeral.{IsNumeral};
 ghost use Rattle.fixed_command.specs.Limits.{limit_of};
 ghost use Rattle.fixed_fit.specs.Run.{HasFitRun};
 ghost use Rattle.line_engine.specs.declared.status.Status.{Status};
-ghost use Rattle.run_engine.specs.LineStatus.{IsStatus};
 ghost use Rattle.run_engine.specs.Seen.{seen_of};
 
 use crate::answer::Unfit;
@@ -14,9 +13,8 @@ use crate::reader::FitList;
 use fixed_command::{Layout, Limit, bytes_within};
 use fixed_steps::Steps;
 use line_engine::{Sink, Source, Status};
-use run_engine::{Cut, Devices, End, Gathered, run};
+use run_engine::{Cut, Devices, Gathered, run, status_of};
 use std::alloc::Global;
-use std::convert::Infallible;
 use std::sync::ledger::Ledger;
 
 /// The form of an input: how long it may be, and what its lines may have.
@@ -47,21 +45,6 @@ impl FitEnd {
             status,
             unfit: list.unfit,
         }
-    }
-}
-
-/// Returns the status of a run's end.
-fn status_of(end: End<Infallible>) -> Status
-    ensures { IsStatus end result }
-{
-    match end {
-        End::Done => Status::Done,
-        End::Faults => Status::Faults,
-        End::ReadFault => Status::ReadFault,
-        End::WriteFault => Status::WriteFault,
-        End::TooLong => Status::TooLong,
-        End::NoMemory => Status::NoMemory,
-        End::Stopped(never) => match never {},
     }
 }
 
