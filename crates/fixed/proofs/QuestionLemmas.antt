@@ -12,7 +12,7 @@ use Rattle.fixed.specs.Lines.{IsFormatAsked, IsPartAsked}
 use Rattle.fixed.specs.Questions.{IsAskedBy, IsBinaryWordAsked}
 use Rattle.fixed.proofs.LawLemmas.{lines_one}
 
-decimal_one : (word : Option (List ℕ)) (f g : ℕ) → IsDecimalAsked word f → IsDecimalAsked word g → f ≡ g
+pub decimal_one : (word : Option (List ℕ)) (f g : ℕ) → IsDecimalAsked word f → IsDecimalAsked word g → f ≡ g
 decimal_one None f g x y = absurd x
 decimal_one (Some word) f g x y = decimal_name_one word f g x y
 

@@ -1,6 +1,6 @@
 -- What the words of a command ask for whose source is a decimal format.
-use Rattle.std.specs.Prelude.{◌≡◌, ℕ, false, None, Option, Some, List, codes}
-use Rattle.command_line.specs.Words.{has_flag, value_of}
+use Rattle.std.specs.Prelude.{◌≡◌, ◌⊎◌, ℕ, Bool, false, None, Option, Some, List, codes}
+use Rattle.command_line.specs.Words.{has_flag, keyword_at, value_of}
 use Rattle.command_line.specs.declared.given.Given.{Given}
 use Rattle.fixed_amounts.specs.Names.{IsDecimalName}
 use Rattle.fixed_amounts.specs.Reading.{words as unit_words}
@@ -10,12 +10,17 @@ use Rattle.fixed_amounts.specs.declared.settings.AmountPrint.{AmountPrint}
 use Rattle.fixed_amounts.specs.declared.settings.AmountPrint.TheVariants as amount
 use Rattle.fixed_amounts.specs.declared.settings.AmountSettings.{AmountSettings}
 use Rattle.fixed_amounts.specs.declared.settings.AmountSpelling.{AmountSpelling}
+use Rattle.fixed_amounts.specs.declared.fault.AmountFault.{AmountFault}
 use Rattle.fixed_amounts.specs.declared.settings.AmountSpelling.TheVariants as spelling
 use Rattle.fixed_bits.specs.declared.format.Policy.{Policy}
 use Rattle.fixed_bits.specs.declared.format.Policy.TheVariants.{Checked}
 use Rattle.fixed_bits.specs.declared.mode.ReadMode.{ReadMode}
 use Rattle.fixed_bits.specs.declared.mode.ReadMode.TheVariants.{NearestEven}
+use Rattle.fixed_command.specs.Amounts.{HasAmountsRun}
 use Rattle.fixed_command.specs.Asked.{IsNamed, IsPrintNamed, spelling_text}
+use Rattle.fixed_command.specs.Layout.{LineLayout}
+use Rattle.fixed_command.specs.Limits.{limit_of}
+use Rattle.fixed_command.specs.declared.amounts.AmountLines.{AmountLines}
 use Rattle.fixed_command.specs.declared.print.Print.{Print}
 use Rattle.fixed_command.specs.declared.print.Print.TheVariants.{All, Bits, Hex, Places, Readmemh, Text, Value}
 use Rattle.fixed_command.specs.declared.spelling.Spelling.{Spelling}
@@ -25,9 +30,18 @@ use Rattle.fixed_pack.specs.declared.bits.PackBits.{PackBits}
 use Rattle.fixed_pack.specs.declared.endian.Endian.{Endian}
 use Rattle.fixed_pack.specs.declared.endian.Endian.TheVariants.{Little}
 use Rattle.fixed_respell.specs.Words.{mode_text, policy_text}
-use Rattle.fixed.specs.Lines.{is_like_format}
+use Rattle.fixed_respell.specs.declared.refusal.Refusal.{Refusal}
+use Rattle.line_engine.specs.Program.{Outside}
+use Rattle.line_engine.specs.declared.status.Status.{Status}
+use Rattle.line_engine.specs.declared.status.Status.TheVariants.{NoMemory}
+use Rattle.run_engine.specs.declared.refusals.Refusals.{Refusals}
+use Rattle.fixed.specs.Convert.{HasNoWordOption}
+use Rattle.fixed.specs.Inputs.{EndsBetween, RunsBetween}
+use Rattle.fixed.specs.Lines.{IsLayoutAsked, is_like_format}
 use Rattle.fixed.specs.Pack.{AreBitsAsked}
 use Rattle.fixed.specs.Settings.{endian_text, pack_input_text}
+use Rattle.fixed.specs.declared.inputs.Job.{Job}
+use Rattle.fixed.specs.declared.inputs.Job.TheVariants as job
 use Rattle.fixed.specs.declared.settings.PackInput.{PackInput}
 use Rattle.fixed.specs.declared.settings.PackInput.TheVariants.{Numerals}
 
@@ -97,6 +111,11 @@ IsDecimalAsked (Some word) format = IsDecimalName word format
 abbrev pub NamesNoDecimal : Option (List ℕ) → Type 0
 NamesNoDecimal word = (format : ℕ) → ¬ IsDecimalAsked word format
 
+-- what is requested if the word names a decimal format, and what if it names none
+abbrev pub IsBySource : Option (List ℕ) → (ℕ → Type 0) → Type 0 → Type 0
+IsBySource word Amount Binary = ((format : ℕ) × IsDecimalAsked word format × Amount format)
+    ⊎ (NamesNoDecimal word × Binary)
+
 -- the word is no target: it has not the shape of a format, and names no decimal format
 abbrev pub IsUnlikeFormat : Option (List ℕ) → Type 0
 IsUnlikeFormat None = Unit {0}
@@ -105,6 +124,29 @@ IsUnlikeFormat (Some word) = is_like_format word ≡ false
 pub record IsNoTarget (word : Option (List ℕ)) : Type 0 where
   pub binary : IsUnlikeFormat word
   pub decimal : NamesNoDecimal word
+
+-- ---- lines
+-- the job for lines that spell amounts: there is no target, and no option for words
+pub record AreAmountLinesAsked (given : Given) (format : ℕ) (asked : Job) : Type 0 where
+  pub target : IsNoTarget (keyword_at given 1)
+  pub alone : HasNoWordOption given
+  pub settings : AmountSettings
+  pub are_settings : IsAmountAsked given format settings
+  pub layout : LineLayout
+  pub is_layout : IsLayoutAsked given layout
+  pub job_is : asked ≡ job.Amounts (record { settings = settings; layout = layout })
+
+-- a run over lines that spell amounts; without memory nothing was read or written
+pub record RunsAmounts (limit : ℕ) (lines : AmountLines) (status : Status) (before after : Outside) : Type 0 where
+  pub run : ¬ (status ≡ NoMemory) → (refusals : Refusals (Refusal AmountFault))
+      × HasAmountsRun limit lines before after status refusals
+  pub memory : status ≡ NoMemory → after ≡ before
+
+-- the lines of an input within a limit, by whether a write of their rejects failed
+abbrev pub AmountsEndBetween : Bool → Option ℕ → AmountLines → Status → Option (List ℕ) → Option (List ℕ)
+    → Option (List ℕ) → Type 0
+AmountsEndBetween failed limit lines = EndsBetween (λ status. RunsBetween (RunsAmounts (limit_of limit) lines status))
+    failed
 
 -- ---- packing
 -- lines are packed so

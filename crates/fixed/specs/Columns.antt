@@ -1,20 +1,44 @@
 -- The meaning of the operands and options of `fixed column`.
 use Rattle.std.specs.Prelude.{◌≡◌, ◌≢◌, ◌==◌, ◌&&◌, ◌||◌, ◌⊎◌, ◌+◌, ◌-◌, ◌^◌, ◌<◌, ◌≤◌, ℕ, Bool, true, false, not}
 use Rattle.std.specs.Prelude.{List, [], ◌∷◌, ◌++◌, None, Option, Some, chars, codes, decimal, length, string_bytes}
-use Rattle.std.specs.Prelude.{is_some, unwrap_or}
+use Rattle.std.specs.Prelude.{if◌then◌else◌, is_some, unwrap_or}
 use Rattle.std.specs.Char.{is_ascii_alphanumeric, is_ascii_whitespace}
 use Rattle.std.specs.List.{list_all, list_any, slice_split}
+use Rattle.column_engine.specs.End.{end_status}
+use Rattle.column_engine.specs.Run.{HasFailures, counts_of, first_state}
+use Rattle.column_engine.specs.Skip.{HasRunAfter}
 use Rattle.column_engine.specs.declared.columns.Column.{Column}
 use Rattle.column_engine.specs.declared.columns.Column.TheVariants.{At, Named}
 use Rattle.column_engine.specs.declared.columns.Destination.{Destination}
 use Rattle.column_engine.specs.declared.columns.Destination.TheVariants.{InPlace, NewColumn}
 use Rattle.column_engine.specs.declared.columns.Range.{Range}
-use Rattle.command_line.specs.Words.{has_flag, value_of, word_at}
+use Rattle.column_engine.specs.declared.end.ColumnEnd.{ColumnEnd}
+use Rattle.column_engine.specs.declared.end.Stop.{Stop}
+use Rattle.column_engine.specs.declared.end.Stop.TheVariants as stop
+use Rattle.command_line.specs.Words.{has_flag, keyword_at, value_of, word_at}
 use Rattle.command_line.specs.declared.given.Given.{Given}
+use Rattle.fixed_amounts.specs.declared.settings.AmountSettings.{AmountSettings}
 use Rattle.fixed_command.specs.Asked.{IsNamed}
+use Rattle.fixed_amounts.specs.Reply.{IsReply}
+use Rattle.fixed_command.specs.Convert.{IsLineReply, without_return}
+use Rattle.fixed_command.specs.Fields.{IsFieldReply, has_amount_point, has_point, kept_of}
+use Rattle.fixed_command.specs.declared.column.ColumnConversion.{ColumnConversion}
+use Rattle.fixed_command.specs.declared.convert.Settings.{Settings}
 use Rattle.fixed_command.specs.declared.field.Empty.{Empty}
 use Rattle.fixed_command.specs.declared.field.Empty.TheVariants.{Kept, Refused, Zero}
 use Rattle.fixed_command.specs.declared.field.FieldForm.{FieldForm}
+use Rattle.fixed_numeral.specs.declared.radix.Radix.TheVariants.{Dec}
+use Rattle.line_engine.specs.AnswerText.{AnswerText}
+use Rattle.line_engine.specs.Memory.{next_count}
+use Rattle.line_engine.specs.declared.status.Status.{Status}
+use Rattle.line_engine.specs.declared.status.Status.TheVariants as status
+use Rattle.fixed.specs.Amounts.{IsAmountAsked, IsBySource, IsNoTarget, NamesNoDecimal}
+use Rattle.fixed.specs.Convert.{IsConversionAsked}
+use Rattle.fixed.specs.Reports.{form_named}
+use Rattle.fixed.specs.Settings.{IsCountWord}
+use Rattle.fixed.specs.declared.commands.column_words.Table.{Table}
+use Rattle.fixed.specs.declared.inputs.Job.{Job}
+use Rattle.fixed.specs.declared.inputs.Job.TheVariants as job
 
 -- a delimiter: one byte other than a quote and a line end, or a tab by its name
 abbrev pub IsDelimiterWord : List ℕ → ℕ → Type 0
@@ -134,3 +158,113 @@ IsDestinationBy all (Some name) destination = (destination ≡ NewColumn name) �
 
 abbrev pub IsDestinationAsked : Given → Destination → Type 0
 IsDestinationAsked given = IsDestinationBy (has_flag given (codes "all")) (value_of given (codes "into"))
+
+-- ---- the job
+-- how records and fields are read and written
+pub record IsTableAsked (given : Given) (table : Table) : Type 0 where
+  pub form : IsFormAsked given table.form
+  pub skipped : IsCountWord (unwrap_or (value_of given (codes "skip")) (codes "0")) table.skipped
+  pub destination : IsDestinationAsked given table.destination
+  pub header : table.has_header ≡ has_flag given (codes "header")
+  pub kept : table.is_kept ≡ has_flag given (codes "keep")
+  pub delimiter : IsDelimiterWord (unwrap_or (value_of given (codes "delimiter")) (codes ",")) table.delimiter
+
+-- the table of a conversion by any rule
+abbrev pub table_in : {R : Type 0} → ColumnConversion R → Table
+table_in conversion = record {
+  form = conversion.form;
+  skipped = conversion.skipped;
+  destination = conversion.destination;
+  has_header = conversion.has_header;
+  is_kept = conversion.is_kept;
+  delimiter = conversion.delimiter;
+}
+
+-- these columns are converted into amounts of this decimal format, which has no target; `source` is the index of the
+-- format, and `files` that of the first file
+pub record AreAmountColumnsAsked (given : Given) (format : ℕ) (columns : List Column) (source : ℕ) (asked : Job)
+    (files : ℕ) : Type 0 where
+  pub target : IsNoTarget (keyword_at given (next_count source))
+  pub conversion : ColumnConversion AmountSettings
+  pub settings : IsAmountAsked given format conversion.rule
+  pub columns_are : conversion.columns.items ≡ columns
+  pub table : IsTableAsked given (table_in conversion)
+  pub job_is : asked ≡ job.AmountColumns conversion
+  pub files_is : files ≡ next_count source
+
+-- the same for a conversion into a binary format
+pub record AreBinaryColumnsAsked (given : Given) (columns : List Column) (source : ℕ) (asked : Job) (files : ℕ)
+    : Type 0 where
+  pub target : NamesNoDecimal (keyword_at given (next_count source))
+  pub conversion : ColumnConversion Settings
+  pub settings : IsConversionAsked given source conversion.rule files
+  pub columns_are : conversion.columns.items ≡ columns
+  pub table : IsTableAsked given (table_in conversion)
+  pub job_is : asked ≡ job.Column conversion (form_named (value_of given (codes "report")))
+
+-- the same for the format that the operand at index `source` names
+abbrev pub IsColumnJobBy : Given → List Column → ℕ → Job → ℕ → Type 0
+IsColumnJobBy given columns source asked files = IsBySource (word_at given source)
+    (λ format. AreAmountColumnsAsked given format columns source asked files)
+    (AreBinaryColumnsAsked given columns source asked files)
+
+-- the job for each input, the index of the format, and that of the first file
+pub record IsColumnJobAsked (given : Given) (asked : Job) (source files : ℕ) : Type 0 where
+  pub columns : List Column
+  pub are_columns : AreColumnsAsked given columns source
+  pub job_by : IsColumnJobBy given columns source asked files
+
+-- ---- the run
+-- whether a read failed
+abbrev pub is_read_fault : Stop → Bool
+is_read_fault stop.Done = false
+is_read_fault stop.ReadFault = true
+is_read_fault stop.WriteFault = false
+is_read_fault stop.NoMemory = false
+is_read_fault stop.TooLong = false
+is_read_fault stop.Unclosed = false
+is_read_fault (stop.NoColumn count) = false
+is_read_fault stop.NoName = false
+
+-- the status of a run with this end, by whether its reader had more bytes than the limit: then the read that failed
+-- was the one past it
+abbrev pub columns_status : Bool → ColumnEnd → Status
+columns_status exceeded end = if exceeded && is_read_fault end.stop then status.TooLong
+    else end_status end.stop end.refused
+
+-- the end of a run with its rejects, by whether a write of these failed
+abbrev pub stopped_if : Bool → ColumnEnd → ColumnEnd
+stopped_if false end = end
+stopped_if true end = record end { stop = stop.WriteFault }
+
+-- a run over columns with this end, by the meaning `A` of the reply to a field and by whether a reply may have a point:
+-- from what its reader holds to what its writer contains. Without memory nothing was read or written.
+pub record FieldsBetween {R : Type 0} (A : List ℕ → AnswerText → Type 0) (conversion : ColumnConversion R)
+    (point : Bool) (end : ColumnEnd) (held old new : Option (List ℕ)) : Type 0 where
+  pub left : Option (List ℕ)
+  pub run : (end.stop ≡ stop.NoMemory) ⊎ HasRunAfter conversion.skipped end.stop A
+      (kept_of conversion.is_kept conversion.form.mark point) conversion.delimiter conversion.columns.items
+      (first_state conversion.has_header conversion.destination conversion.columns.items) (counts_of end) held left
+      old new
+  pub read_failures : ℕ
+  pub write_failures : ℕ
+  pub failures : HasFailures 0 read_failures 0 write_failures end.stop
+  pub memory : end.stop ≡ stop.NoMemory → (left ≡ held) × (new ≡ old)
+
+-- the status of such a run with its rejects, by whether a write of these failed
+abbrev pub FieldsEnd : {R : Type 0} → (List ℕ → AnswerText → Type 0) → ColumnConversion R → Bool → Bool → Status
+    → Option (List ℕ) → Option (List ℕ) → Option (List ℕ) → Type 0
+FieldsEnd A conversion point failed result held old new = (end : ColumnEnd) × (exceeded : Bool)
+    × (result ≡ columns_status exceeded (stopped_if failed end))
+    × FieldsBetween A conversion point end held old new
+
+-- the same for a conversion into a binary format, and into a decimal one
+abbrev pub BinaryColumnsEnd : Bool → ColumnConversion Settings → Status → Option (List ℕ) → Option (List ℕ)
+    → Option (List ℕ) → Type 0
+BinaryColumnsEnd failed conversion = FieldsEnd (IsFieldReply conversion.form conversion.rule.radix
+    (IsLineReply conversion.rule)) conversion (has_point conversion.rule.print) failed
+
+abbrev pub AmountColumnsEnd : Bool → ColumnConversion AmountSettings → Status → Option (List ℕ) → Option (List ℕ)
+    → Option (List ℕ) → Type 0
+AmountColumnsEnd failed conversion = FieldsEnd (IsFieldReply conversion.form Dec
+    (λ line. IsReply conversion.rule (without_return line))) conversion (has_amount_point conversion.rule.print) failed

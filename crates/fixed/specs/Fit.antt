@@ -1,10 +1,11 @@
--- The meaning of the options of `fixed fit` for formats within an error.
+-- The meaning of the operands and options of `fixed fit`.
 use Rattle.std.specs.Prelude.{◌≡◌, ◌≢◌, ◌^◌, ◌≤◌, ◌==◌, ℕ, suc, zero, Bool, true, false, List, [], ◌∷◌, ◌++◌}
-use Rattle.std.specs.Prelude.{None, Option, Some, codes, decimal, drop, get_or, take}
+use Rattle.std.specs.Prelude.{None, Option, Some, codes, decimal, drop, get_or, is_some, map, option_map, take}
 use Rattle.std.specs.Str.{bytes_eq}
 use Rattle.std.specs.Str.Parse.{IsNumeral as IsNumber, digits_value}
-use Rattle.command_line.specs.Words.{keyword_at}
+use Rattle.command_line.specs.Words.{has_flag, keyword_at, value_of}
 use Rattle.command_line.specs.declared.given.Given.{Given}
+use Rattle.fixed_command.specs.Asked.{IsNamed}
 use Rattle.fixed_fit.specs.declared.question.Fractions.{Fractions}
 use Rattle.fixed_fit.specs.declared.question.Fractions.TheVariants.{Beyond, Whole}
 use Rattle.fixed_fit.specs.declared.question.Widths.{Widths}
@@ -12,7 +13,10 @@ use Rattle.fixed_fit.specs.declared.question.Widths.TheVariants.{Any, One, Types
 use Rattle.fixed_numeral.specs.Numeral.{IsNumeral}
 use Rattle.fixed_numeral.specs.declared.radix.Radix.{Radix}
 use Rattle.fixed_numeral.specs.declared.radix.Radix.TheVariants.{Bin, Dec, Hex, Oct}
+use Rattle.fixed_respell.specs.Words.{radix_text}
 use Rattle.fixed_write.specs.Texts.{last_digits}
+use Rattle.fixed.specs.Lines.{IsKindAsked, IsLayoutIfAsked, has_layout}
+use Rattle.fixed.specs.declared.commands.fit.FitTask.{FitTask}
 
 -- the widths to try: any width with `--any`, which requires an error and excludes a width; else the given width; else
 -- those of the types
@@ -85,3 +89,31 @@ IsNoHyphenWord (Some word) = has_hyphen word ≡ false
 -- no operand before `--` does
 abbrev pub HasNoHyphen : Given → Type 0
 HasNoHyphen given = (place : ℕ) → IsNoHyphenWord (keyword_at given place)
+
+-- the question about each list
+pub record IsFitAsked (given : Given) (task : FitTask) : Type 0 where
+  pub kind : IsKindAsked (has_flag given (codes "signed")) (is_some (value_of given (codes "error")))
+      (value_of given (codes "width")) task.question.kind
+  pub layout : IsLayoutIfAsked given task.layout
+  pub radix : IsNamed Radix radix_text Dec (value_of given (codes "radix")) task.question.radix
+  pub fractions : IsFractionsAsked task.question.kind.width (value_of given (codes "whole"))
+      (has_flag given (codes "beyond")) task.question.fractions
+  pub reason : task.question.is_reason_asked ≡ has_flag given (codes "why")
+  pub range : task.question.is_range ≡ has_flag given (codes "range")
+  pub error : IsErrorAsked task.question.radix (value_of given (codes "error"))
+      (option_map (λ text. text.items) task.error)
+  pub widths : widths_asked (has_flag given (codes "any")) (is_some (value_of given (codes "error")))
+      (is_some (value_of given (codes "width"))) ≡ Some task.widths
+
+-- a list of two lines, the only operands
+abbrev pub AreEnds : List (List ℕ) → List ℕ → Type 0
+AreEnds [] list = ⊥
+AreEnds (low ∷ []) list = ⊥
+AreEnds (low ∷ high ∷ []) list = list ≡ (low ++ 10 ∷ []) ++ (high ++ 10 ∷ [])
+AreEnds (low ∷ high ∷ word ∷ words) list = ⊥
+
+-- the list of the two ends of a range: no option is given that has a meaning only for an input
+pub record IsRangeAsked (given : Given) (list : List ℕ) : Type 0 where
+  pub layout : has_layout given ≡ false
+  pub limit : value_of given (codes "limit") ≡ None
+  pub ends : AreEnds (map (λ s. s.now) given.words.items) list

@@ -13,9 +13,15 @@ pub mod Convert
 pub mod Errors
 pub mod Json
 pub mod Unpack
+pub mod Packing
+pub mod Repack
 pub mod Reports
 pub mod Ends
 pub mod Inputs
+pub mod PackRuns
+pub mod FitRuns
+pub mod RecodeRuns
+pub mod Jobs
 pub mod Products
 pub mod Laws
 pub mod Inner

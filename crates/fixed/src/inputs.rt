@@ -4,6 +4,7 @@ ghost use Rattle.std.specs.Prelude.{◌≡◌, ◌≤◌, ◌&&◌, length};
 ghost use Rattle.command_line.specs.Device.{written_to};
 ghost use Rattle.fixed.specs.Ends.{is_last};
 ghost use Rattle.fixed.specs.Inputs.{TaskEndsBetween, WordsEndBetween};
+ghost use Rattle.fixed.specs.Jobs.{JobEndsBetween};
 
 use crate::commands::column_run::{run_amounts_on, run_column_on};
 use crate::commands::{amounts, convert, fit, floats, json, pack, repack, unpack};
@@ -32,7 +33,7 @@ use fixed_steps::Steps;
 use fixed_words::{WordRefusal, WordRule, WordsEnd, convert_words};
 use line_engine::Status;
 use std::fs::File;
-use std::io::{self, Error, ErrorKind, Read, Stdin, Write};
+use std::io::{self, Error, ErrorKind, Read, Stdin, Stdout, Write};
 use std::mem;
 use std::sync::ledger::Ledger;
 
@@ -405,7 +406,12 @@ fn run_reader<R: Read + Drop, L: Ledger>(
     output: &mut Output,
     rejects: &mut RejectFile<'_, '_>,
     steps: &mut Steps<L>,
-) -> Status {
+) -> Status
+    ensures { JobEndsBetween job.now (rejects.old.has_file && rejects.new.rejects.has_failed) limit.now
+        rejects.old.rejects result (R.remaining reader)
+        (written_to ⟦<Stdout as Write>⟧.contents ⟦<File as Write>⟧.contents output.old)
+        (written_to ⟦<Stdout as Write>⟧.contents ⟦<File as Write>⟧.contents output.new) }
+{
     match job {
         Job::Task(task) => {
             let form = ReportForm::Text;

@@ -1,6 +1,7 @@
 //! The file that `--rejects` names: a line for each refused line.
 
 ghost use Rattle.std.specs.Prelude.{◌≡◌, ◌&&◌};
+ghost use Rattle.fixed.specs.Columns.{stopped_if};
 ghost use Rattle.fixed.specs.Inputs.{end_of};
 
 use crate::options::{OUTPUT, REJECTS};
@@ -60,7 +61,10 @@ impl<'c, 'a> RejectFile<'c, 'a> {
     }
 
     /// Takes the rejects, for a run that keeps them.
-    pub fn take(&mut self) -> Rejects<'a, RejectSink<'c>> {
+    pub fn take(&mut self) -> Rejects<'a, RejectSink<'c>>
+        ensures value { result ≡ self.old.rejects }
+        ensures file { self.new.has_file ≡ self.old.has_file }
+    {
         let none: Rejects<'a, RejectSink<'c>> = Rejects::none();
         mem::replace(&mut self.rejects, none)
     }
@@ -70,7 +74,9 @@ impl<'c, 'a> RejectFile<'c, 'a> {
         &mut self,
         rejects: Rejects<'a, RejectSink<'c>>,
         mut end: ColumnEnd,
-    ) -> ColumnEnd {
+    ) -> ColumnEnd
+        ensures { result ≡ stopped_if (self.old.has_file && self.new.rejects.has_failed) end }
+    {
         self.rejects = rejects;
         self.rejects.flush();
         if self.has_failed() {
@@ -81,7 +87,9 @@ impl<'c, 'a> RejectFile<'c, 'a> {
 
     /// Takes the rejects of a run back, and writes the gathered lines. Returns the status of the input, from the status
     /// of the run.
-    pub fn end_with(&mut self, rejects: Rejects<'a, RejectSink<'c>>, status: Status) -> Status {
+    pub fn end_with(&mut self, rejects: Rejects<'a, RejectSink<'c>>, status: Status) -> Status
+        ensures { result ≡ end_of (self.old.has_file && self.new.rejects.has_failed) status }
+    {
         self.rejects = rejects;
         self.end(status)
     }
@@ -197,19 +205,4 @@ impl<'c, W: Write> Write for Guarded<'c, W> {
     fn flush(&mut self) -> io::Result<()> {
         self.writer.flush()
     }
-}
-
-/// Returns a sink for answers, which fails once the device of the rejects failed.
-pub fn answer_sink<'f, 'c>(
-    writer: Output,
-    rejects: &'c Failure,
-    failure: &'f Failure,
-) -> StdSink<Writer<'f, Guarded<'c, Output>>> {
-    StdSink::new(Writer {
-        writer: Guarded {
-            writer,
-            failure: rejects,
-        },
-        failure,
-    })
 }

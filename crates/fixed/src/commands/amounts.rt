@@ -3,20 +3,27 @@
 //! A decimal format can only be the SOURCE. Options that mean nothing for it are refused, since a user who gives one
 //! expects something else: a second rounding loses a cent if the first one meets a tie.
 
-ghost use Rattle.std.specs.Prelude.{◌≡◌, IfErr, IfOk, MatchOption, codes};
+ghost use Rattle.std.specs.Prelude.{◌≡◌, ◌&&◌, IfErr, IfOk, List, MatchOption, codes, ℕ};
+ghost use Rattle.column_engine.specs.declared.columns.Column.{Column};
+ghost use Rattle.command_line.specs.Device.{written_to};
 ghost use Rattle.command_line.specs.Words.{keyword_at, value_of, word_at};
-ghost use Rattle.fixed.specs.Amounts.{AreUnitsAsked, HasNoBinaryOption, IsAmountAsked, IsNumeralAsked, IsRadixTen};
+ghost use Rattle.fixed.specs.Amounts.{AmountsEndBetween, AreAmountLinesAsked, AreUnitsAsked, HasNoBinaryOption};
+ghost use Rattle.fixed.specs.Amounts.{IsAmountAsked};
+ghost use Rattle.fixed.specs.Amounts.{IsNumeralAsked, IsRadixTen};
 ghost use Rattle.fixed.specs.Amounts.{amount_print, amount_spelling};
 ghost use Rattle.fixed.specs.Amounts.{AreUnitBitsAsked, IsAmountPackAsked, IsDecimalAsked, IsNoTarget, NamesNoDecimal};
+ghost use Rattle.fixed.specs.Columns.{AreAmountColumnsAsked};
+ghost use Rattle.fixed.specs.declared.inputs.Job.{Job};
+ghost use Rattle.fixed.specs.Unpack.{AreAmountsUnpacked};
 ghost use Rattle.fixed_amounts.specs.declared.facts.AmountQuestion.{AmountQuestion};
 ghost use Rattle.fixed_amounts.specs.declared.settings.AmountSettings.{AmountSettings};
 ghost use Rattle.fixed_command.specs.Asked.{IsPrintNamed};
 ghost use Rattle.fixed_command.specs.declared.print.Print.{Print};
 ghost use Rattle.fixed_pack.specs.declared.amounts.PackAmounts.{PackAmounts};
+ghost use Rattle.fixed_pack.specs.declared.amounts.UnpackAmounts.{UnpackAmounts};
 ghost use Rattle.fixed_pack.specs.declared.bits.PackBits.{PackBits};
 
-use crate::commands::column::{HEADER, KEEP};
-use crate::commands::column_words::{delimiter_of, destination_of, form_of, skipped_of};
+use crate::commands::column_words::table_of;
 use crate::commands::convert::refuse_words;
 use crate::commands::pack::{Explains, bits_of};
 use crate::explained::{TRIM_OFFERS, push_amount_explanation};
@@ -50,7 +57,8 @@ use fixed_pack::{PackAmounts, PackBits, UnpackAmounts};
 use fixed_steps::Steps;
 use line_engine::Status;
 use run_engine::Refusals;
-use std::io::Read;
+use std::io::{Read, Write};
+use std::mem;
 use std::sync::ledger::Ledger;
 
 /// Why `--places` is refused.
@@ -257,10 +265,10 @@ pub fn pack_units<'a>(given: &Given<'_, 'a>) -> Asked<'a, PackBits>
 }
 
 /// Returns how words are unpacked: each as the amount of its count of units.
-pub fn unpack_settings<'a>(
-    given: &Given<'_, 'a>,
-    format: DecimalFormat,
-) -> Asked<'a, UnpackAmounts> {
+pub fn unpack_settings<'a>(given: &Given<'_, 'a>, format: DecimalFormat) -> Asked<'a, UnpackAmounts>
+    ensures value { IfOk result (λ amounts. AreAmountsUnpacked given.now format amounts) }
+    ensures refused { IfErr result (λ _. (amounts : UnpackAmounts) → ¬ AreAmountsUnpacked given.now format amounts) }
+{
     refuse_target(given, 1)?;
     match written_floats_of(given)? {
         None => (),
@@ -362,6 +370,23 @@ pub fn refuse_decimal_target<'a>(given: &Given<'_, 'a>, place: usize) -> Asked<'
     }
 }
 
+/// Returns the job that converts lines, each of which spells an amount.
+fn lines_of<'a>(given: &Given<'_, 'a>, format: DecimalFormat) -> Asked<'a, Job<'a>>
+    ensures value { IfOk result (λ job. AreAmountLinesAsked given.now format job) }
+    ensures refused { IfErr result (λ _. (job : Job) → ¬ AreAmountLinesAsked given.now format job) }
+{
+    refuse_target(given, 1)?;
+    refuse_words(given)?;
+    let settings = match amount_settings(given, format) {
+        Ok(settings) => settings,
+        Err(refusal) => return Err(refusal),
+    };
+    match layout_of(given) {
+        Ok(layout) => Ok(Job::Amounts(AmountLines { settings, layout })),
+        Err(refusal) => Err(refusal),
+    }
+}
+
 /// Answers the lines of each file, which spell amounts.
 pub fn convert<'a, L: Ledger>(
     rt: &HostRuntime,
@@ -369,52 +394,49 @@ pub fn convert<'a, L: Ledger>(
     format: DecimalFormat,
     steps: &mut Steps<L>,
 ) -> Asked<'a, Status> {
-    refuse_target(given, 1)?;
-    refuse_words(given)?;
-    let settings = match amount_settings(given, format) {
-        Ok(settings) => settings,
+    let job = match lines_of(given, format) {
+        Ok(job) => job,
         Err(refusal) => return Err(refusal),
     };
-    let layout = match layout_of(given) {
-        Ok(layout) => layout,
-        Err(refusal) => return Err(refusal),
-    };
-    let job = Job::Amounts(AmountLines { settings, layout });
     let format = given.needed(0, "SOURCE")?;
     run_inputs(rt, &job, format, given, 1, steps)
 }
 
-/// Converts the columns of each file into amounts. `place` is the index of the format.
-pub fn column<'a, L: Ledger>(
-    rt: &HostRuntime,
+/// Returns the job that converts columns into amounts, and the index of the first file. `source` is the index of the
+/// format.
+pub fn amounts_of<'a>(
     given: &Given<'_, 'a>,
     columns: Vec<Column>,
-    place: usize,
+    source: usize,
     format: DecimalFormat,
-    steps: &mut Steps<L>,
-) -> Asked<'a, Status> {
-    let files = place.saturating_add(1);
+) -> Asked<'a, (Job<'a>, usize)>
+    ensures value { IfOk result (λ asked.
+        AreAmountColumnsAsked given.now format columns.items source asked.0 asked.1) }
+    ensures refused { IfErr result (λ _. (list : List Column) (job : Job) (files : ℕ)
+        → ¬ AreAmountColumnsAsked given.now format list source job files) }
+{
+    let files = source.saturating_add(1);
     refuse_target(given, files)?;
     let rule = match amount_settings(given, format) {
         Ok(rule) => rule,
         Err(refusal) => return Err(refusal),
     };
-    let form = match form_of(given) {
-        Ok(form) => form,
-        Err(refusal) => return Err(refusal),
-    };
-    let job = Job::AmountColumns(ColumnConversion {
-        rule,
-        form,
-        skipped: skipped_of(given)?,
-        columns,
-        destination: destination_of(given)?,
-        has_header: given.has(&HEADER),
-        is_kept: given.has(&KEEP),
-        delimiter: delimiter_of(given)?,
-    });
-    let format = given.needed(place, "SOURCE")?;
-    run_inputs(rt, &job, format, given, files, steps)
+    match table_of(given) {
+        Ok(table) => {
+            let conversion = ColumnConversion {
+                rule,
+                form: table.form,
+                skipped: table.skipped,
+                columns,
+                destination: table.destination,
+                has_header: table.has_header,
+                is_kept: table.is_kept,
+                delimiter: table.delimiter,
+            };
+            Ok((Job::AmountColumns(conversion), files))
+        }
+        Err(refusal) => Err(refusal),
+    }
 }
 
 /// Reports on standard error how many lines of an input were refused, with the text and the cause of the first.
@@ -448,21 +470,26 @@ fn report_refused<L: Ledger>(
 
 /// Answers the lines of one input, and reports on standard error why it did not end well.
 #[inline(never)]
-pub fn run_on<R: Read + Drop, L: Ledger>(
+pub fn run_on<R: Read + Drop, S: Write + Drop, F: Write + Drop, L: Ledger>(
     rt: &HostRuntime,
     lines: &AmountLines,
     limit: &Option<Limit>,
     file: Option<&str>,
     reader: R,
-    output: &mut Output,
+    output: &mut Output<S, F>,
     rejects: &mut RejectFile<'_, '_>,
     steps: &mut Steps<L>,
-) -> Status {
+) -> Status
+    ensures { AmountsEndBetween (rejects.old.has_file && rejects.new.rejects.has_failed) limit.now lines.now result
+        (R.remaining reader) (written_to S.contents F.contents output.old)
+        (written_to S.contents F.contents output.new) }
+{
     let failure = Failure::new(None);
     let mut source = StdSource::new(Unmarked::new(reader));
+    let writer = mem::replace(output, Output::Nowhere);
     let mut sink = StdSink::new(Writer {
         writer: Guarded {
-            writer: &mut *output,
+            writer,
             failure: rejects.failure,
         },
         failure: &failure,
@@ -483,5 +510,6 @@ pub fn run_on<R: Read + Drop, L: Ledger>(
         report_refused(rt, lines, file, &end.watch, steps);
     }
     report_end(rt, file, status, sink.lines(), rejects.failure_or(&failure));
+    *output = sink.into_writer().writer.writer;
     status
 }

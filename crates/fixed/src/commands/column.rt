@@ -1,9 +1,13 @@
 //! `fixed column`: converts columns of CSV.
 
+ghost use Rattle.std.specs.Prelude.{◌≡◌, ◌⊎◌, IfErr, IfOk, List, ℕ};
+ghost use Rattle.column_engine.specs.declared.columns.Column.{Column};
+ghost use Rattle.command_line.specs.declared.given.Refusal.{Refusal};
+ghost use Rattle.fixed.specs.Columns.{AreBinaryColumnsAsked, IsColumnJobAsked};
+ghost use Rattle.fixed.specs.declared.inputs.Job.{Job};
+
 use crate::commands::amounts;
-use crate::commands::column_words::{
-    columns_of, delimiter_of, destination_of, form_of, skipped_of,
-};
+use crate::commands::column_words::{columns_of, table_of};
 use crate::inputs::{Job, run_inputs};
 use crate::options::{
     FROM, LIMIT, MODE, OUTPUT, PLACES, PLACES_MODE, POLICY, PRINT, RADIX, REJECTS, REPORT, SOURCE,
@@ -11,11 +15,13 @@ use crate::options::{
 };
 use crate::reports::report_asked;
 use crate::settings::{conversion, note_target_mode};
+use column_engine::Column;
 use command_line::given::{Asked, Given};
 use command_line::page::{Operand, Page, Row};
 use fixed_command::{ColumnConversion, Offers};
 use fixed_steps::Steps;
 use line_engine::Status;
+use std::alloc::Global;
 use std::sync::ledger::Ledger;
 
 const COLUMN: Operand = Operand {
@@ -169,37 +175,74 @@ pub fn page() -> Page {
     }
 }
 
+/// Returns the job that converts columns into a binary format, and the index of the first file. `source` is the index
+/// of the format.
+fn binary_of<'a>(
+    given: &Given<'_, 'a>,
+    columns: Vec<Column>,
+    source: usize,
+) -> Asked<'a, (Job<'a>, usize)>
+    ensures value { IfOk result (λ asked. AreBinaryColumnsAsked given.now columns.items source asked.0 asked.1) }
+    ensures refused { IfErr result (λ _. (list : List Column) (job : Job) (files : ℕ)
+        → ¬ AreBinaryColumnsAsked given.now list source job files) }
+{
+    amounts::refuse_decimal_target(given, source.saturating_add(1))?;
+    let (rule, files) = match conversion(given, source) {
+        Ok(found) => found,
+        Err(refusal) => return Err(refusal),
+    };
+    match table_of(given) {
+        Ok(table) => {
+            let conversion = ColumnConversion {
+                rule,
+                form: table.form,
+                skipped: table.skipped,
+                columns,
+                destination: table.destination,
+                has_header: table.has_header,
+                is_kept: table.is_kept,
+                delimiter: table.delimiter,
+            };
+            let report = report_asked(given);
+            Ok((Job::Column { conversion, report }, files))
+        }
+        Err(refusal) => Err(refusal),
+    }
+}
+
+/// Returns the job for each input, the index of the format, and that of the first file.
+fn job_of<'a>(alloc: Global, given: &Given<'_, 'a>) -> Asked<'a, (Job<'a>, usize, usize)>
+    ensures value { IfOk result (λ asked. IsColumnJobAsked given.now asked.0 asked.1 asked.2) }
+    ensures refused { IfErr result (λ e. (e ≡ Refusal.NoMemory) ⊎ ((job : Job) (source files : ℕ)
+        → ¬ IsColumnJobAsked given.now job source files)) }
+{
+    let (columns, source) = match columns_of(alloc, given) {
+        Ok(found) => found,
+        Err(refusal) => return Err(refusal),
+    };
+    match amounts::decimal_at(given, source) {
+        Some(format) => match amounts::amounts_of(given, columns, source, format) {
+            Ok((job, files)) => Ok((job, source, files)),
+            Err(refusal) => Err(refusal),
+        },
+        None => match binary_of(given, columns, source) {
+            Ok((job, files)) => Ok((job, source, files)),
+            Err(refusal) => Err(refusal),
+        },
+    }
+}
+
 /// Converts the columns of each file.
 pub fn run<'a, L: Ledger>(
     rt: &HostRuntime,
     given: &Given<'_, 'a>,
     steps: &mut Steps<L>,
 ) -> Asked<'a, Status> {
-    let (columns, source) = columns_of(rt.alloc(), given)?;
-    if let Some(format) = amounts::decimal_at(given, source) {
-        return amounts::column(rt, given, columns, source, format, steps);
-    }
-    amounts::refuse_decimal_target(given, source.saturating_add(1))?;
-    let (rule, files) = conversion(given, source)?;
-    let form = match form_of(given) {
-        Ok(form) => form,
+    let (job, source, files) = match job_of(rt.alloc(), given) {
+        Ok(found) => found,
         Err(refusal) => return Err(refusal),
     };
-    let conversion = ColumnConversion {
-        rule,
-        form,
-        skipped: skipped_of(given)?,
-        columns,
-        destination: destination_of(given)?,
-        has_header: given.has(&HEADER),
-        is_kept: given.has(&KEEP),
-        delimiter: delimiter_of(given)?,
-    };
     note_target_mode(rt, given, source, files);
-    let job = Job::Column {
-        conversion,
-        report: report_asked(given),
-    };
     let format = given.needed(source, "SOURCE")?;
     run_inputs(rt, &job, format, given, files, steps)
 }

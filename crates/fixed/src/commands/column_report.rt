@@ -1,5 +1,8 @@
 //! The reports of `fixed column` on standard error.
 
+ghost use Rattle.std.specs.Prelude.{◌≡◌, ◌&&◌};
+ghost use Rattle.fixed.specs.Columns.{columns_status, is_read_fault};
+
 use crate::commands::amounts::COLUMN_OFFERS;
 use crate::commands::column::OFFERS;
 use crate::explained::amount_rule;
@@ -457,12 +460,16 @@ pub struct Known<'a, R> {
 
 impl<'a, R> Known<'a, R> {
     /// Whether the records ended at the limit of the file.
-    fn is_too_long(&self) -> bool {
-        self.is_exceeded && self.end.stop == Stop::ReadFault
+    fn is_too_long(&self) -> bool
+        ensures { result ≡ (self.now.is_exceeded && is_read_fault self.now.end.stop) }
+    {
+        self.is_exceeded && matches!(self.end.stop, Stop::ReadFault)
     }
 
     /// Returns the status of the conversion.
-    pub fn status(&self) -> Status {
+    pub fn status(&self) -> Status
+        ensures { result ≡ columns_status self.now.is_exceeded self.now.end }
+    {
         if self.is_too_long() {
             Status::TooLong
         } else {

@@ -1,21 +1,26 @@
 //! Runs a conversion of columns over one input.
 
+ghost use Rattle.std.specs.Prelude.{◌≡◌, ◌&&◌};
+ghost use Rattle.column_engine.specs.declared.end.ColumnEnd.{ColumnEnd as End};
+ghost use Rattle.command_line.specs.Device.{written_to};
+ghost use Rattle.fixed.specs.Columns.{AmountColumnsEnd, BinaryColumnsEnd, FieldsBetween, columns_status, stopped_if};
+
 use crate::commands::column_report::{Explains, Known, Name, report_end};
 use crate::inputs::asked_report;
-use crate::rejects::{RejectFile, answer_sink};
+use crate::rejects::{Guarded, RejectFile};
 use crate::reports::ReportForm;
 use column_engine::{ColumnEnd, ColumnRun, FieldRule, FieldWatch, RefusedField};
-use command_line::device::{Failure, Limited, Output};
+use command_line::device::{Failure, Limited, Output, Writer};
 use fixed_amounts::AmountSettings;
 use fixed_command::{
     ColumnConversion, ConvertRule, FieldNumerals, FieldReport, Limit, RefusedFields, bytes_within,
     convert_fields, has_amount_point, has_point,
 };
-use fixed_io::StdSource;
+use fixed_io::{StdSink, StdSource};
 use fixed_numeral::Radix;
 use fixed_steps::Steps;
 use line_engine::Status;
-use std::io::Read;
+use std::io::{Read, Write};
 use std::mem;
 use std::sync::ledger::Ledger;
 
@@ -41,7 +46,15 @@ struct FieldsEnd<W> {
 /// Converts columns of one input by a rule for their fields, and tells an observer. Each refused field has a line of
 /// rejects.
 #[inline(never)]
-fn run_fields<R, A: FieldRule<L>, W: FieldWatch<A, L> + Drop, I: Read + Drop, L: Ledger>(
+fn run_fields<
+    R,
+    A: FieldRule<L>,
+    W: FieldWatch<A, L> + Drop,
+    I: Read + Drop,
+    S: Write + Drop,
+    F: Write + Drop,
+    L: Ledger,
+>(
     rt: &HostRuntime,
     conversion: &ColumnConversion<'_, R>,
     has_point: bool,
@@ -49,16 +62,27 @@ fn run_fields<R, A: FieldRule<L>, W: FieldWatch<A, L> + Drop, I: Read + Drop, L:
     watch: W,
     limit: &Option<Limit>,
     reader: I,
-    output: &mut Output,
+    output: &mut Output<S, F>,
     rejects: &mut RejectFile<'_, '_>,
     failure: &Failure,
     steps: &mut Steps<L>,
-) -> FieldsEnd<W> {
+) -> FieldsEnd<W>
+    ensures { (end : End)
+        × (result.end ≡ stopped_if (rejects.old.has_file && rejects.new.rejects.has_failed) end)
+        × FieldsBetween (A.Answers rule.now) conversion.now has_point end (I.remaining reader)
+        (written_to S.contents F.contents output.old) (written_to S.contents F.contents output.new) }
+{
     let mut limited = Limited::new(reader, bytes_within(limit));
     let mut source = StdSource::new(&mut limited);
     let observer = RefusedFields::new(rejects.take(), watch);
     let writer = mem::replace(output, Output::Nowhere);
-    let mut sink = answer_sink(writer, rejects.failure, failure);
+    let mut sink = StdSink::new(Writer {
+        writer: Guarded {
+            writer,
+            failure: rejects.failure,
+        },
+        failure,
+    });
     let ColumnRun { end, records } = convert_fields(
         rt.alloc(),
         conversion,
@@ -93,23 +117,29 @@ fn report<R: Explains, L: Ledger>(
     rejects: &RejectFile<'_, '_>,
     failure: &Failure,
     steps: &mut Steps<L>,
-) -> Status {
+) -> Status
+    ensures { result ≡ columns_status known.now.is_exceeded known.now.end }
+{
     report_end(rt, file, known, lines, rejects.failure_or(failure), steps);
     known.status()
 }
 
 /// Converts columns of one input, and reports on standard error why it did not end well.
-pub fn run_column_on<I: Read + Drop, L: Ledger>(
+pub fn run_column_on<I: Read + Drop, S: Write + Drop, F: Write + Drop, L: Ledger>(
     rt: &HostRuntime,
     conversion: &ColumnConversion<'_, ConvertRule>,
     limit: &Option<Limit>,
     form: Option<ReportForm>,
     file: Option<&str>,
     reader: I,
-    output: &mut Output,
+    output: &mut Output<S, F>,
     rejects: &mut RejectFile<'_, '_>,
     steps: &mut Steps<L>,
-) -> Status {
+) -> Status
+    ensures { BinaryColumnsEnd (rejects.old.has_file && rejects.new.rejects.has_failed) conversion.now result
+        (I.remaining reader) (written_to S.contents F.contents output.old)
+        (written_to S.contents F.contents output.new) }
+{
     let settings = conversion.rule.settings();
     let rule = FieldNumerals {
         rule: &conversion.rule,
@@ -136,16 +166,20 @@ pub fn run_column_on<I: Read + Drop, L: Ledger>(
 }
 
 /// Converts columns of one input into amounts, and reports on standard error why it did not end well.
-pub fn run_amounts_on<I: Read + Drop, L: Ledger>(
+pub fn run_amounts_on<I: Read + Drop, S: Write + Drop, F: Write + Drop, L: Ledger>(
     rt: &HostRuntime,
     conversion: &ColumnConversion<'_, AmountSettings>,
     limit: &Option<Limit>,
     file: Option<&str>,
     reader: I,
-    output: &mut Output,
+    output: &mut Output<S, F>,
     rejects: &mut RejectFile<'_, '_>,
     steps: &mut Steps<L>,
-) -> Status {
+) -> Status
+    ensures { AmountColumnsEnd (rejects.old.has_file && rejects.new.rejects.has_failed) conversion.now result
+        (I.remaining reader) (written_to S.contents F.contents output.old)
+        (written_to S.contents F.contents output.new) }
+{
     let rule = FieldNumerals {
         rule: &conversion.rule,
         radix: Radix::Dec,

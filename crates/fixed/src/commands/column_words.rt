@@ -12,15 +12,16 @@ ghost use Rattle.command_line.specs.declared.given.Refusal.{Refusal};
 ghost use Rattle.fixed.specs.Columns.{AreColumnWords, AreColumnsAsked, AreColumnsOf, IsByName, IsColumnWord};
 ghost use Rattle.fixed.specs.Columns.{IsDecimalWord, IsDelimiterWord, IsDestinationAsked, IsFormAsked, IsMarkAsked};
 ghost use Rattle.fixed.specs.Columns.{IsOneWord, IsRangeWord, IsThousandsAsked, IsThousandsWord};
-ghost use Rattle.fixed.specs.Columns.{IsSpan, empty_text, is_separator};
+ghost use Rattle.fixed.specs.Columns.{IsSpan, IsTableAsked, empty_text, is_separator};
 ghost use Rattle.fixed.specs.Settings.{IsCountWord};
+ghost use Rattle.fixed.specs.declared.commands.column_words.Table.{Table};
 ghost use Rattle.fixed_command.specs.Asked.{IsNamed};
 ghost use Rattle.fixed_command.specs.declared.field.Empty.{Empty};
 ghost use Rattle.fixed_command.specs.declared.field.FieldForm.{FieldForm};
 
 use crate::commands::column::{
-    ALL, DECIMAL, DECIMAL_OUT, DELIMITER, EMPTY, HEADER, INTO, SKIP, THOUSANDS, THOUSANDS_ANYWHERE,
-    TRIM,
+    ALL, DECIMAL, DECIMAL_OUT, DELIMITER, EMPTY, HEADER, INTO, KEEP, SKIP, THOUSANDS,
+    THOUSANDS_ANYWHERE, TRIM,
 };
 use crate::settings::{count_named, count_of, known, value_or};
 use column_engine::{Column, Destination, MAX_NAME, Range};
@@ -224,6 +225,50 @@ pub fn form_of<'a>(given: &Given<'_, 'a>) -> Asked<'a, FieldForm<'a>>
         mark,
         empty: empty_of(given)?,
     })
+}
+
+/// How the records and fields of a text are read and written.
+#[derive(Drop)]
+pub struct Table<'a> {
+    /// How a field spells a numeral.
+    pub form: FieldForm<'a>,
+    /// How many lines come before the records.
+    pub skipped: u64,
+    /// Where the answers go.
+    pub destination: Destination,
+    /// Whether the first record is a header.
+    pub has_header: bool,
+    /// Whether a refused field stays unchanged.
+    pub is_kept: bool,
+    /// The byte between fields.
+    pub delimiter: u8,
+}
+
+/// Returns how records and fields are read and written, from the options.
+pub fn table_of<'a>(given: &Given<'_, 'a>) -> Asked<'a, Table<'a>>
+    ensures value { IfOk result (λ table. IsTableAsked given.now table) }
+    ensures refused { IfErr result (λ _. (table : Table) → ¬ IsTableAsked given.now table) }
+{
+    let form = match form_of(given) {
+        Ok(form) => form,
+        Err(refusal) => return Err(refusal),
+    };
+    let skipped = skipped_of(given)?;
+    let destination = match destination_of(given) {
+        Ok(destination) => destination,
+        Err(refusal) => return Err(refusal),
+    };
+    match delimiter_of(given) {
+        Ok(delimiter) => Ok(Table {
+            form,
+            skipped,
+            destination,
+            has_header: given.has(&HEADER),
+            is_kept: given.has(&KEEP),
+            delimiter,
+        }),
+        Err(refusal) => Err(refusal),
+    }
 }
 
 /// Returns the index of the column that `word` numbers, if it is a number from 1.

@@ -4,13 +4,18 @@
 ghost use Rattle.std.specs.Prelude.{◌≡◌, ◌≤◌, ◌++◌, ◌∷◌, [], ◌⊎◌, ◌+◌, ◌*◌, ℕ, IfErr, IfOk, List, MatchOption, None};
 ghost use Rattle.std.specs.Prelude.{OnOk, Option, Some, codes, is_some, length, option_map, slice_index};
 ghost use Rattle.std.specs.Str.Parse.{AllDigits, digits_value};
+ghost use Rattle.command_line.specs.Device.{written_to};
 ghost use Rattle.command_line.specs.Words.{has_flag, value_of};
 ghost use Rattle.command_line.specs.declared.given.Refusal.{Refusal};
 ghost use Rattle.fixed.specs.Fit.{IsErrorAsked, IsErrorNumeral, IsFractionsAsked, IsPower, IsPowerWord, IsWholeWord};
-ghost use Rattle.fixed.specs.Fit.{HasNoHyphen, half_power, has_hyphen, widths_asked};
+ghost use Rattle.fixed.specs.Fit.{HasNoHyphen, IsFitAsked, IsRangeAsked, half_power, has_hyphen, widths_asked};
+ghost use Rattle.fixed.specs.FitRuns.{RunsFitWithin};
 ghost use Rattle.fixed.specs.Inner.Fractions.{IsFraction};
 ghost use Rattle.fixed.specs.Lines.{IsKindAsked, IsKindWord};
+ghost use Rattle.fixed.specs.declared.commands.fit.FitTask.{FitTask};
 ghost use Rattle.fixed_bits.specs.Formats.{FormatParts};
+ghost use Rattle.fixed_command.specs.Limits.{limit_of};
+ghost use Rattle.line_engine.specs.Program.{outside};
 
 use crate::inputs::{Job, run_inputs};
 use crate::line_layout::{layout_asked, refuse_layout};
@@ -30,6 +35,8 @@ use fixed_respell::number_word;
 use fixed_steps::Steps;
 use line_engine::{MemorySource, Sink, Source, Status};
 use std::alloc::{AllocError, Global};
+use std::io::Write;
+use std::mem;
 use std::sync::ledger::Ledger;
 
 /// The greatest K in an error 2^-K.
@@ -413,7 +420,13 @@ fn answer_list<S: Source, K: Sink, L: Ledger>(
     source: &mut S,
     sink: &mut K,
     steps: &mut Steps<L>,
-) -> FitEnd {
+) -> FitEnd
+    ensures { RunsFitWithin (option_map (λ text. text.items) task.now.error) (limit_of limit.now) task.now result.status
+        (outside (S.left source.old) (S.asked source.old) (S.failures source.old) (K.written sink.old)
+        (K.failures sink.old) steps.old)
+        (outside (S.left source.new) (S.asked source.new) (S.failures source.new) (K.written sink.new)
+        (K.failures sink.new) steps.new) }
+{
     let question = &task.question;
     let widths = Some(task.widths);
     let form = InputForm {
@@ -443,18 +456,27 @@ fn answer_list<S: Source, K: Sink, L: Ledger>(
 
 /// Answers the list of a source, and reports on standard error why it did not end well.
 #[inline(never)]
-pub fn run_on<S: Source, L: Ledger>(
+pub fn run_on<S: Source, O: Write + Drop, F: Write + Drop, L: Ledger>(
     rt: &HostRuntime,
     task: &FitTask,
     limit: &Option<Limit>,
     file: Option<&str>,
     source: &mut S,
-    output: &mut Output,
+    output: &mut Output<O, F>,
     steps: &mut Steps<L>,
-) -> Status {
+) -> Status
+    ensures { (failures : ℕ) × RunsFitWithin (option_map (λ text. text.items) task.now.error) (limit_of limit.now)
+        task.now result
+        (outside (S.left source.old) (S.asked source.old) (S.failures source.old)
+        (written_to O.contents F.contents output.old) 0 steps.old)
+        (outside (S.left source.new) (S.asked source.new) (S.failures source.new)
+        (written_to O.contents F.contents output.new) failures steps.new) }
+{
     let failure = Failure::new(None);
+    // The sink owns the writer meanwhile, so that contracts know what it contains.
+    let writer = mem::replace(output, Output::Nowhere);
     let mut sink = StdSink::new(Writer {
-        writer: output,
+        writer,
         failure: &failure,
     });
     let end = answer_list(rt, task, limit, source, &mut sink, steps);
@@ -464,6 +486,7 @@ pub fn run_on<S: Source, L: Ledger>(
         }
     }
     report_end(rt, file, end.status, sink.lines(), &failure);
+    *output = sink.into_writer().writer;
     end.status
 }
 
@@ -486,6 +509,23 @@ fn ends_of(alloc: Global, low: &str, high: &str) -> Result<Vec<u8>, AllocError>
     Ok(bytes)
 }
 
+/// Returns the list of the two ends of the range that the operands are.
+fn range_of<'a>(alloc: Global, given: &Given<'_, 'a>) -> Asked<'a, Vec<u8>>
+    ensures value { IfOk result (λ list. IsRangeAsked given.now list.items) }
+    ensures refused { IfErr result (λ e. (e ≡ Refusal.NoMemory) ⊎ ((list : List ℕ) → ¬ IsRangeAsked given.now list)) }
+{
+    refuse_layout(given, NO_INPUT)?;
+    refuse_value(given, &LIMIT, NO_INPUT)?;
+    match given.from(0) {
+        [low, high] => match ends_of(alloc, low, high) {
+            Ok(list) => Ok(list),
+            Err(_) => Err(Refusal::NoMemory),
+        },
+        [_, _, word, ..] => Err(Refusal::Word(word, "is one word too many: a range is LO HI")),
+        _ => Err(Refusal::Missing("range: it is LO HI")),
+    }
+}
+
 /// Answers for every value between two numerals, passed as a list of the two.
 fn run_range<'a, L: Ledger>(
     rt: &HostRuntime,
@@ -493,27 +533,14 @@ fn run_range<'a, L: Ledger>(
     given: &Given<'_, 'a>,
     steps: &mut Steps<L>,
 ) -> Asked<'a, Status> {
-    refuse_layout(given, NO_INPUT)?;
-    refuse_value(given, &LIMIT, NO_INPUT)?;
-    match given.from(0) {
-        [low, high] => {
-            let bytes = ends_of(rt.alloc(), low, high)?;
-            let mut source = MemorySource::new(bytes, 4096, Vec::new(rt.alloc()));
-            match open_answers(rt, given) {
-                Ok(mut output) => Ok(run_on(
-                    rt,
-                    task,
-                    &None,
-                    None,
-                    &mut source,
-                    &mut output,
-                    steps,
-                )),
-                Err(status) => Ok(status),
-            }
-        }
-        [_, _, word, ..] => Err(Refusal::Word(word, "is one word too many: a range is LO HI")),
-        _ => Err(Refusal::Missing("range: it is LO HI")),
+    let list = match range_of(rt.alloc(), given) {
+        Ok(list) => list,
+        Err(refusal) => return Err(refusal),
+    };
+    let mut source = MemorySource::new(list, 4096, Vec::new(rt.alloc()));
+    match open_answers(rt, given) {
+        Ok(mut output) => Ok(run_on(rt, task, &None, None, &mut source, &mut output, steps)),
+        Err(status) => Ok(status),
     }
 }
 
@@ -545,12 +572,15 @@ fn refuse_hyphens<'a>(given: &Given<'_, 'a>) -> Asked<'a, ()>
     Ok(())
 }
 
-/// Answers each file, or a range.
-pub fn run<'a, L: Ledger>(
-    rt: &HostRuntime,
+/// Returns the question about each list, from the options.
+fn task_of<'a, L: Ledger>(
+    alloc: Global,
     given: &Given<'_, 'a>,
     steps: &mut Steps<L>,
-) -> Asked<'a, Status> {
+) -> Asked<'a, FitTask>
+    ensures value { IfOk result (λ task. IsFitAsked given.now task) }
+    ensures refused { IfErr result (λ e. (e ≡ Refusal.NoMemory) ⊎ ((task : FitTask) → ¬ IsFitAsked given.now task)) }
+{
     let kind = match kind_of(given) {
         Ok(kind) => kind,
         Err(refusal) => return Err(refusal),
@@ -560,7 +590,7 @@ pub fn run<'a, L: Ledger>(
         Err(refusal) => return Err(refusal),
     };
     let radix = radix_of(given)?;
-    let task = FitTask {
+    Ok(FitTask {
         question: Question {
             radix,
             kind,
@@ -568,9 +598,21 @@ pub fn run<'a, L: Ledger>(
             is_reason_asked: given.has(&WHY),
             is_range: given.has(&RANGE),
         },
-        error: error_of(rt.alloc(), given, radix, steps)?,
+        error: error_of(alloc, given, radix, steps)?,
         widths: widths_of(given)?,
         layout,
+    })
+}
+
+/// Answers each file, or a range.
+pub fn run<'a, L: Ledger>(
+    rt: &HostRuntime,
+    given: &Given<'_, 'a>,
+    steps: &mut Steps<L>,
+) -> Asked<'a, Status> {
+    let task = match task_of(rt.alloc(), given, steps) {
+        Ok(task) => task,
+        Err(refusal) => return Err(refusal),
     };
     if given.has(&RANGE) {
         return run_range(rt, &task, given, steps);

@@ -1,7 +1,9 @@
 //! Raw floats: `fixed pack --from` reads them into words, and `fixed unpack --to` writes them for words.
 
 ghost use Rattle.std.specs.Prelude.{◌≡◌, ◌≤◌, length};
+ghost use Rattle.command_line.specs.Device.{written_to};
 ghost use Rattle.fixed.specs.Ends.{end_text, status_of};
+ghost use Rattle.fixed.specs.RecodeRuns.{PacksFloatsBetween, RecodesBetween, UnpacksFloatsBetween};
 
 use crate::commands::pack::Counted;
 use crate::inputs::report_greatest;
@@ -18,7 +20,8 @@ use fixed_steps::Steps;
 use line_engine::Status;
 use run_engine::End;
 use std::cell::Cell;
-use std::io::{Error, Read};
+use std::io::{Error, Read, Write};
+use std::mem;
 use std::sync::ledger::Ledger;
 
 /// Returns the status of a run with this end.
@@ -191,6 +194,8 @@ pub fn recode_on<
     Q: Recode<Cause = WordRefusal> + Drop,
     W: WordWatch<WordRefusal, L> + Reports + Drop,
     R: Read + Drop,
+    S: Write + Drop,
+    F: Write + Drop,
     L: Ledger,
 >(
     rt: &HostRuntime,
@@ -199,15 +204,21 @@ pub fn recode_on<
     form: ReportForm,
     input: &WordInput<'_>,
     reader: R,
-    output: &mut Output,
+    output: &mut Output<S, F>,
     steps: &mut Steps<L>,
-) -> Status {
+) -> Status
+    ensures { RecodesBetween input.now.limit.now (Q.size rule) (Q.Recodes rule) (Q.Refuses rule) W.Saw rule result
+        (R.remaining reader) (written_to S.contents F.contents output.old)
+        (written_to S.contents F.contents output.new) }
+{
     let failure = Failure::new(None);
     let taken = Cell::new(0);
     let mut source = StdSource::new(reader);
+    // The sink owns the writer meanwhile, so that contracts know what it contains.
+    let writer = mem::replace(output, Output::Nowhere);
     let mut sink = StdSink::new(Counted {
         writer: Writer {
-            writer: output,
+            writer,
             failure: &failure,
         },
         taken: &taken,
@@ -227,6 +238,7 @@ pub fn recode_on<
     if !has_failed {
         watch.report(rt, form, input, status, steps);
     }
+    *output = sink.into_writer().writer.writer;
     status
 }
 
@@ -267,16 +279,19 @@ fn report_tally(rt: &HostRuntime, name: &str, file: Option<&str>, tally: &Tally)
 
 /// Reads the floats of one input into words, and reports on standard error why it did not end well.
 #[inline(never)]
-pub fn pack_on<R: Read + Drop, L: Ledger>(
+pub fn pack_on<R: Read + Drop, S: Write + Drop, F: Write + Drop, L: Ledger>(
     rt: &HostRuntime,
     floats: &FloatWords,
     limit: &Option<Limit>,
     form: Option<ReportForm>,
     file: Option<&str>,
     reader: R,
-    output: &mut Output,
+    output: &mut Output<S, F>,
     steps: &mut Steps<L>,
-) -> Status {
+) -> Status
+    ensures { PacksFloatsBetween form limit.now floats.now result (R.remaining reader)
+        (written_to S.contents F.contents output.old) (written_to S.contents F.contents output.new) }
+{
     let input = WordInput {
         item: Item::Float,
         file,
@@ -296,15 +311,18 @@ pub fn pack_on<R: Read + Drop, L: Ledger>(
 
 /// Writes the words of one input as floats, and reports on standard error why it did not end well.
 #[inline(never)]
-pub fn unpack_on<R: Read + Drop, L: Ledger>(
+pub fn unpack_on<R: Read + Drop, S: Write + Drop, F: Write + Drop, L: Ledger>(
     rt: &HostRuntime,
     words: &WordFloats,
     limit: &Option<Limit>,
     file: Option<&str>,
     reader: R,
-    output: &mut Output,
+    output: &mut Output<S, F>,
     steps: &mut Steps<L>,
-) -> Status {
+) -> Status
+    ensures { UnpacksFloatsBetween limit.now words.now result (R.remaining reader)
+        (written_to S.contents F.contents output.old) (written_to S.contents F.contents output.new) }
+{
     let input = WordInput {
         item: Item::Word,
         file,

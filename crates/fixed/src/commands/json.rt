@@ -1,7 +1,14 @@
 //! `fixed json`: converts the values at a path of lines of JSON.
 
-ghost use Rattle.std.specs.Prelude.{◌≡◌, ◌⊎◌, List, ℕ, IfErr, IfOk, map};
-ghost use Rattle.fixed.specs.Json.{IsJsonFormAsked, IsPathAsked, is_quoted, is_quoted_amount};
+ghost use Rattle.std.specs.Prelude.{◌≡◌, ◌⊎◌, ◌&&◌, Bool, List, ℕ, IfErr, IfOk, map};
+ghost use Rattle.command_line.specs.Device.{written_to};
+ghost use Rattle.command_line.specs.declared.given.Refusal.{Refusal};
+ghost use Rattle.fixed.specs.Json.{IsAmountRuleAsked, IsBinaryRuleAsked, IsFormOf, IsJsonJobAsked, IsPathAsked};
+ghost use Rattle.fixed.specs.Json.{IsRuleAsked, JsonEndsBetween, RunsJson, is_quoted, is_quoted_amount};
+ghost use Rattle.fixed.specs.Inputs.{EndsBetween, RunsBetween};
+ghost use Rattle.fixed_command.specs.Limits.{limit_of};
+ghost use Rattle.fixed.specs.declared.commands.json.JsonJob.{JsonJob};
+ghost use Rattle.fixed.specs.declared.commands.json.ValueRule.{ValueRule};
 ghost use Rattle.json_lines.specs.Path.{PathStep, step_of};
 
 use crate::commands::amounts;
@@ -13,11 +20,11 @@ use crate::options::{
     FROM, LIMIT, MODE, OUTPUT, PLACES, PLACES_MODE, POLICY, PRINT, RADIX, REJECTS, REPORT, SOURCE,
     TARGET, TARGET_MODE,
 };
-use crate::rejects::{RejectFile, answer_sink};
+use crate::rejects::{Guarded, RejectFile};
 use crate::reports::{ReportForm, report_asked, report_lines};
 use crate::settings::{conversion, note_target_mode};
-use column_engine::{FieldRule, FieldWatch};
-use command_line::device::{Failure, Output, Unmarked};
+use column_engine::{FieldRule, FieldWatch, FirstRefused};
+use command_line::device::{Failure, Output, Unmarked, Writer};
 use command_line::given::{Asked, Given, Refusal};
 use command_line::page::{Operand, Page, Row};
 use command_line::report::{Report, report_end};
@@ -25,13 +32,14 @@ use fixed_amounts::{AmountPrint, AmountSettings};
 use fixed_command::{
     ConvertRule, FieldForm, FieldNumerals, FieldReport, Layout, Limit, Offers, Print, RefusedFields,
 };
-use fixed_io::StdSource;
+use fixed_decimal::DecimalFormat;
+use fixed_io::{StdSink, StdSource};
 use fixed_numeral::Radix;
 use fixed_steps::Steps;
 use json_lines::{Form, JsonRefusal, JsonTask, PathFault, Step, path_named, run_json};
 use line_engine::Status;
 use std::alloc::Global;
-use std::io::Read;
+use std::io::{Read, Write};
 use std::mem;
 use std::sync::ledger::Ledger;
 
@@ -96,12 +104,16 @@ pub enum ValueRule {
 pub struct JsonJob<'a> {
     /// How a value is converted.
     rule: ValueRule,
+    /// Whether every reply is written as a string. Otherwise only the reply to a string is.
+    quotes: bool,
     /// How a value spells a numeral.
     spelling: FieldForm<'a>,
     /// The path to the values.
     steps: Vec<Step<'a>>,
-    /// How they are exchanged.
-    form: Form<'a>,
+    /// Whether a refused line stays as it was.
+    keeps: bool,
+    /// Which lines stay, as blank ones or comments.
+    layout: Layout,
     /// The report of the values that is requested, if any.
     report: Option<ReportForm>,
 }
@@ -182,14 +194,14 @@ fn is_quoted_amount(print: AmountPrint) -> bool
     }
 }
 
-/// Returns how values are exchanged and which lines stay, from the options.
-fn json_form<'l>(given: &Given<'_, '_>, quotes: bool, layout: &'l Layout) -> Form<'l>
-    ensures { IsJsonFormAsked given.now quotes layout.now result }
+/// Returns how the values of a job are exchanged and which lines stay.
+fn json_form<'l>(job: &'l JsonJob<'_>) -> Form<'l>
+    ensures { IsFormOf job.now result }
 {
     Form {
-        quotes,
-        keeps: given.has(&KEEP),
-        layout,
+        quotes: job.quotes,
+        keeps: job.keeps,
+        layout: &job.layout,
     }
 }
 
@@ -268,27 +280,50 @@ struct ValuesEnd<W> {
 /// Converts the values of one input by a rule, and tells an observer of each. Each refused value or line has a line of
 /// rejects.
 #[inline(never)]
-fn run_rule<A: FieldRule<L>, W: FieldWatch<A, L> + Drop, R: Read + Drop, L: Ledger>(
+fn run_rule<
+    A: FieldRule<L>,
+    W: FieldWatch<A, L> + Drop,
+    R: Read + Drop,
+    S: Write + Drop,
+    F: Write + Drop,
+    L: Ledger,
+>(
     rt: &HostRuntime,
     job: &JsonJob<'_>,
     rule: &A,
     limit: &Option<Limit>,
     watch: W,
     reader: R,
-    output: &mut Output,
+    output: &mut Output<S, F>,
     rejects: &mut RejectFile<'_, '_>,
     failure: &Failure,
     steps: &mut Steps<L>,
-) -> ValuesEnd<W> {
+) -> ValuesEnd<W>
+    ensures { EndsBetween (λ status. RunsBetween (RunsJson (λ rule. A.Answers rule) (λ rule. W.Saw rule)
+        (limit_of limit.now) job.now rule.now rejects.old.rejects status))
+        (rejects.old.has_file && rejects.new.rejects.has_failed) result.status (R.remaining reader)
+        (written_to S.contents F.contents output.old)
+        (written_to S.contents F.contents output.new) }
+{
     let task = JsonTask {
         rule,
         steps: &job.steps,
-        form: job.form,
+        form: json_form(job),
     };
     let mut source = StdSource::new(Unmarked::new(reader));
     let writer = mem::replace(output, Output::Nowhere);
-    let mut sink = answer_sink(writer, rejects.failure, failure);
-    let observer = RefusedFields::new(rejects.take(), watch);
+    let mut sink = StdSink::new(Writer {
+        writer: Guarded {
+            writer,
+            failure: rejects.failure,
+        },
+        failure,
+    });
+    let observer = RefusedFields {
+        first: FirstRefused::new(),
+        rejects: rejects.take(),
+        watch,
+    };
     let end = run_json(
         rt.alloc(),
         limit,
@@ -333,16 +368,20 @@ fn report<W, L: Ledger>(
 }
 
 /// Converts the values of one input, and reports on standard error why it did not end well.
-pub fn run_on<R: Read + Drop, L: Ledger>(
+pub fn run_on<R: Read + Drop, S: Write + Drop, F: Write + Drop, L: Ledger>(
     rt: &HostRuntime,
     job: &JsonJob<'_>,
     limit: &Option<Limit>,
     file: Option<&str>,
     reader: R,
-    output: &mut Output,
+    output: &mut Output<S, F>,
     rejects: &mut RejectFile<'_, '_>,
     steps: &mut Steps<L>,
-) -> Status {
+) -> Status
+    ensures { JsonEndsBetween (rejects.old.has_file && rejects.new.rejects.has_failed) limit.now job.now
+        rejects.old.rejects result (R.remaining reader) (written_to S.contents F.contents output.old)
+        (written_to S.contents F.contents output.new) }
+{
     let failure = Failure::new(None);
     match &job.rule {
         ValueRule::Binary(rule) => {
@@ -384,13 +423,71 @@ pub fn run_on<R: Read + Drop, L: Ledger>(
     }
 }
 
-/// Converts the values of each file.
-pub fn run<'a, L: Ledger>(
-    rt: &HostRuntime,
+/// Returns how a value is converted into an amount of a decimal format, whether every reply is written as a string, and
+/// the index of the first file.
+fn amount_rule_of<'a>(
     given: &Given<'_, 'a>,
-    steps: &mut Steps<L>,
-) -> Asked<'a, Status> {
-    let path = path_of(rt.alloc(), given)?;
+    format: DecimalFormat,
+) -> Asked<'a, (ValueRule, bool, usize)>
+    ensures value { IfOk result (λ found. IsAmountRuleAsked given.now format found.0 found.1 found.2) }
+    ensures refused { IfErr result (λ _. (rule : ValueRule) (quotes : Bool) (files : ℕ)
+        → ¬ IsAmountRuleAsked given.now format rule quotes files) }
+{
+    amounts::refuse_target(given, 2)?;
+    match amounts::amount_settings(given, format) {
+        Ok(settings) => {
+            let quotes = is_quoted_amount(settings.print);
+            Ok((ValueRule::Amount(settings), quotes, 2))
+        }
+        Err(refusal) => Err(refusal),
+    }
+}
+
+/// Returns how a value is converted into a binary format, whether every reply is written as a string, and the index of
+/// the first file.
+fn binary_rule_of<'a>(given: &Given<'_, 'a>) -> Asked<'a, (ValueRule, bool, usize)>
+    ensures value { IfOk result (λ found. IsBinaryRuleAsked given.now found.0 found.1 found.2) }
+    ensures refused { IfErr result (λ _. (rule : ValueRule) (quotes : Bool) (files : ℕ)
+        → ¬ IsBinaryRuleAsked given.now rule quotes files) }
+{
+    amounts::refuse_decimal_target(given, 2)?;
+    match conversion(given, 1) {
+        Ok((rule, files)) => {
+            let quotes = is_quoted(rule.settings().print);
+            Ok((ValueRule::Binary(rule), quotes, files))
+        }
+        Err(refusal) => Err(refusal),
+    }
+}
+
+/// Returns how a value is converted, whether every reply is written as a string, and the index of the first file.
+fn rule_of<'a>(given: &Given<'_, 'a>) -> Asked<'a, (ValueRule, bool, usize)>
+    ensures value { IfOk result (λ found. IsRuleAsked given.now found.0 found.1 found.2) }
+    ensures refused { IfErr result (λ _. (rule : ValueRule) (quotes : Bool) (files : ℕ)
+        → ¬ IsRuleAsked given.now rule quotes files) }
+{
+    match amounts::decimal_at(given, 1) {
+        Some(format) => match amount_rule_of(given, format) {
+            Ok(found) => Ok(found),
+            Err(refusal) => Err(refusal),
+        },
+        None => match binary_rule_of(given) {
+            Ok(found) => Ok(found),
+            Err(refusal) => Err(refusal),
+        },
+    }
+}
+
+/// Returns the job for each input, and the index of the first file.
+fn job_of<'a>(alloc: Global, given: &Given<'_, 'a>) -> Asked<'a, (JsonJob<'a>, usize)>
+    ensures value { IfOk result (λ asked. IsJsonJobAsked given.now asked.0 asked.1) }
+    ensures refused { IfErr result (λ e. (e ≡ Refusal.NoMemory) ⊎ ((job : JsonJob) (files : ℕ)
+        → ¬ IsJsonJobAsked given.now job files)) }
+{
+    let steps = match path_of(alloc, given) {
+        Ok(steps) => steps,
+        Err(refusal) => return Err(refusal),
+    };
     let layout = match layout_of(given) {
         Ok(layout) => layout,
         Err(refusal) => return Err(refusal),
@@ -399,35 +496,34 @@ pub fn run<'a, L: Ledger>(
         Ok(spelling) => spelling,
         Err(refusal) => return Err(refusal),
     };
-    let (rule, quotes, files) = match rule_of(rt, given) {
+    match rule_of(given) {
+        Ok((rule, quotes, files)) => {
+            let job = JsonJob {
+                rule,
+                quotes,
+                spelling,
+                steps,
+                keeps: given.has(&KEEP),
+                layout,
+                report: report_asked(given),
+            };
+            Ok((job, files))
+        }
+        Err(refusal) => Err(refusal),
+    }
+}
+
+/// Converts the values of each file.
+pub fn run<'a, L: Ledger>(
+    rt: &HostRuntime,
+    given: &Given<'_, 'a>,
+    steps: &mut Steps<L>,
+) -> Asked<'a, Status> {
+    let (job, files) = match job_of(rt.alloc(), given) {
         Ok(found) => found,
         Err(refusal) => return Err(refusal),
     };
-    let job = Job::Json(JsonJob {
-        rule,
-        spelling,
-        steps: path,
-        form: json_form(given, quotes, &layout),
-        report: report_asked(given),
-    });
-    let format = given.needed(1, "SOURCE")?;
-    run_inputs(rt, &job, format, given, files, steps)
-}
-
-/// Returns how a value is converted, whether each answer is a string, and the index of the first file.
-fn rule_of<'a>(rt: &HostRuntime, given: &Given<'_, 'a>) -> Asked<'a, (ValueRule, bool, usize)> {
-    if let Some(format) = amounts::decimal_at(given, 1) {
-        amounts::refuse_target(given, 2)?;
-        let settings = match amounts::amount_settings(given, format) {
-            Ok(settings) => settings,
-            Err(refusal) => return Err(refusal),
-        };
-        let quotes = is_quoted_amount(settings.print);
-        return Ok((ValueRule::Amount(settings), quotes, 2));
-    }
-    amounts::refuse_decimal_target(given, 2)?;
-    let (rule, files) = conversion(given, 1)?;
     note_target_mode(rt, given, 1, files);
-    let quotes = is_quoted(rule.settings().print);
-    Ok((ValueRule::Binary(rule), quotes, files))
+    let format = given.needed(1, "SOURCE")?;
+    run_inputs(rt, &Job::Json(job), format, given, files, steps)
 }

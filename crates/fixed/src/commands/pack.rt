@@ -1,8 +1,16 @@
 //! `fixed pack`: converts numerals or words of bits, one a line, or raw floats to raw words.
 
 ghost use Rattle.std.specs.Prelude.{IfErr, IfOk};
+ghost use Rattle.command_line.specs.Device.{written_to};
 ghost use Rattle.fixed.specs.Pack.{AreBitsAsked};
+ghost use Rattle.fixed.specs.Packing.{AreFloatsPacked, AreNumeralsPacked, IsAmountPack, IsBinaryPack, IsLinesJob};
+ghost use Rattle.fixed.specs.Packing.{IsPackAsked};
+ghost use Rattle.fixed.specs.PackRuns.{PackEndsBetween, PacksBetween, PacksLinesBetween};
+ghost use Rattle.fixed.specs.declared.commands.pack.LinesRule.{LinesRule};
+ghost use Rattle.fixed.specs.declared.inputs.Job.{Job};
 ghost use Rattle.fixed_pack.specs.declared.bits.PackBits.{PackBits};
+ghost use Rattle.fixed_pack.specs.declared.float_words.FloatWords.{FloatWords};
+ghost use Rattle.fixed_pack.specs.declared.pack.PackSettings.{PackSettings};
 
 use crate::commands::amounts::{self, MAX_KEPT};
 use crate::commands::convert::OFFERS;
@@ -34,6 +42,7 @@ use line_engine::Status;
 use run_engine::{End, RefusedLine};
 use std::cell::Cell;
 use std::io::{Read, Result, Write};
+use std::mem;
 use std::sync::ledger::Ledger;
 
 /// Why `--report` is refused for lines.
@@ -94,6 +103,8 @@ pub struct Counted<'c, W> {
 }
 
 impl<'c, W: Write> Write for Counted<'c, W> {
+    ghost contents = { λ c. W.contents c.writer };
+
     fn write(&mut self, buf: &[u8]) -> Result<usize> {
         let count = self.writer.write(buf)?;
         self.taken
@@ -256,41 +267,56 @@ fn report_end<P: Explains, L: Ledger>(
 
 /// Packs one input by a rule, and reports on standard error why it did not end well.
 #[inline(never)]
-fn pack_on<P: Explains + Copy + Drop, R: Read + Drop, L: Ledger>(
+fn pack_on<P: Explains + Copy + Drop, R: Read + Drop, S: Write + Drop, F: Write + Drop, L: Ledger>(
     rt: &HostRuntime,
     rule: P,
     limit: &Option<Limit>,
     file: Option<&str>,
     reader: R,
-    output: &mut Output,
+    output: &mut Output<S, F>,
     steps: &mut Steps<L>,
-) -> Status {
+) -> Status
+    ensures { PacksBetween limit.now (P.Packs rule) (P.Refuses rule) rule result (R.remaining reader)
+        (written_to S.contents F.contents output.old) (written_to S.contents F.contents output.new) }
+{
     let failure = Failure::new(None);
     let taken = Cell::new(0);
     let mut source = StdSource::new(Unmarked::new(reader));
+    // The sink owns the writer meanwhile, so that contracts know what it contains.
+    let writer = mem::replace(output, Output::Nowhere);
     let mut sink = StdSink::new(Counted {
         writer: Writer {
-            writer: output,
+            writer,
             failure: &failure,
         },
         taken: &taken,
     });
     let end = run_pack(rt.alloc(), limit, rule, &mut source, &mut sink, steps);
     report_end(rt, &rule, file, &end, taken.get(), &failure, steps);
+    *output = sink.into_writer().writer.writer;
     status_of(&end)
 }
 
 /// Packs one input by a rule, over lines with a layout if there is one.
-fn pack_lines<P: Explains + Copy + Drop, R: Read + Drop, L: Ledger>(
+fn pack_lines<
+    P: Explains + Copy + Drop,
+    R: Read + Drop,
+    S: Write + Drop,
+    F: Write + Drop,
+    L: Ledger,
+>(
     rt: &HostRuntime,
     rule: P,
     layout: &Option<Layout>,
     limit: &Option<Limit>,
     file: Option<&str>,
     reader: R,
-    output: &mut Output,
+    output: &mut Output<S, F>,
     steps: &mut Steps<L>,
-) -> Status {
+) -> Status
+    ensures { PacksLinesBetween layout.now limit.now (P.Packs rule) (P.Refuses rule) rule result (R.remaining reader)
+        (written_to S.contents F.contents output.old) (written_to S.contents F.contents output.new) }
+{
     match layout {
         None => pack_on(rt, rule, limit, file, reader, output, steps),
         Some(layout) => {
@@ -304,15 +330,18 @@ fn pack_lines<P: Explains + Copy + Drop, R: Read + Drop, L: Ledger>(
 }
 
 /// Packs one input.
-pub fn run_on<R: Read + Drop, L: Ledger>(
+pub fn run_on<R: Read + Drop, S: Write + Drop, F: Write + Drop, L: Ledger>(
     rt: &HostRuntime,
     task: &PackTask,
     limit: &Option<Limit>,
     file: Option<&str>,
     reader: R,
-    output: &mut Output,
+    output: &mut Output<S, F>,
     steps: &mut Steps<L>,
-) -> Status {
+) -> Status
+    ensures { PackEndsBetween limit.now task.now result (R.remaining reader)
+        (written_to S.contents F.contents output.old) (written_to S.contents F.contents output.new) }
+{
     let layout = &task.layout;
     match task.rule {
         LinesRule::Numerals(rule) => {
@@ -325,17 +354,24 @@ pub fn run_on<R: Read + Drop, L: Ledger>(
     }
 }
 
+/// Returns the job, by the format that the first operand names.
+fn job_of<'a>(given: &Given<'_, 'a>) -> Asked<'a, Job<'a>>
+    ensures value { IfOk result (λ job. IsPackAsked given.now job) }
+    ensures refused { IfErr result (λ _. (job : Job) → ¬ IsPackAsked given.now job) }
+{
+    match amounts::decimal_at(given, 0) {
+        Some(format) => decimal_job(given, format),
+        None => binary_job(given),
+    }
+}
+
 /// Packs the lines or the floats of each file.
 pub fn run<'a, L: Ledger>(
     rt: &HostRuntime,
     given: &Given<'_, 'a>,
     steps: &mut Steps<L>,
 ) -> Asked<'a, Status> {
-    let job = match amounts::decimal_at(given, 0) {
-        Some(format) => decimal_job(given, format),
-        None => binary_job(given),
-    };
-    match job {
+    match job_of(given) {
         Ok(job) => {
             let format = given.needed(0, "FORMAT")?;
             run_inputs(rt, &job, format, given, 1, steps)
@@ -345,7 +381,10 @@ pub fn run<'a, L: Ledger>(
 }
 
 /// Returns the job that packs lines.
-fn lines_job<'a>(given: &Given<'_, 'a>, rule: LinesRule) -> Asked<'a, Job<'a>> {
+fn lines_job<'a>(given: &Given<'_, 'a>, rule: LinesRule) -> Asked<'a, Job<'a>>
+    ensures value { IfOk result (λ job. IsLinesJob given.now rule job) }
+    ensures refused { IfErr result (λ _. (by : LinesRule) (job : Job) → ¬ IsLinesJob given.now by job) }
+{
     match layout_asked(given) {
         Ok(layout) => Ok(Job::Pack(PackTask { rule, layout })),
         Err(refusal) => Err(refusal),
@@ -353,7 +392,10 @@ fn lines_job<'a>(given: &Given<'_, 'a>, rule: LinesRule) -> Asked<'a, Job<'a>> {
 }
 
 /// Returns the job for a decimal format.
-fn decimal_job<'a>(given: &Given<'_, 'a>, format: DecimalFormat) -> Asked<'a, Job<'a>> {
+fn decimal_job<'a>(given: &Given<'_, 'a>, format: DecimalFormat) -> Asked<'a, Job<'a>>
+    ensures value { IfOk result (λ job. IsAmountPack given.now format job) }
+    ensures refused { IfErr result (λ _. (job : Job) → ¬ IsAmountPack given.now format job) }
+{
     match pack_input_of(given)? {
         PackInput::Bits => match amounts::pack_units(given) {
             Ok(bits) => lines_job(given, LinesRule::Bits(bits)),
@@ -367,18 +409,30 @@ fn decimal_job<'a>(given: &Given<'_, 'a>, format: DecimalFormat) -> Asked<'a, Jo
 }
 
 /// Returns the job for a binary format.
-fn binary_job<'a>(given: &Given<'_, 'a>) -> Asked<'a, Job<'a>> {
+fn binary_job<'a>(given: &Given<'_, 'a>) -> Asked<'a, Job<'a>>
+    ensures value { IfOk result (λ job. IsBinaryPack given.now job) }
+    ensures refused { IfErr result (λ _. (job : Job) → ¬ IsBinaryPack given.now job) }
+{
     let format = match format_at(given, 0, "FORMAT") {
         Ok(format) => format,
         Err(refusal) => return Err(refusal),
     };
     match pack_input_of(given)? {
-        PackInput::Numerals => numerals_job(given, format),
+        PackInput::Numerals => match numerals_of(given, format) {
+            Ok(settings) => lines_job(given, LinesRule::Numerals(settings)),
+            Err(refusal) => Err(refusal),
+        },
         PackInput::Bits => match bits_of(given, format) {
             Ok(bits) => lines_job(given, LinesRule::Bits(bits)),
             Err(refusal) => Err(refusal),
         },
-        PackInput::Floats(layout) => floats_job(given, format, layout),
+        PackInput::Floats(layout) => match floats_of(given, format, layout) {
+            Ok(floats) => Ok(Job::PackFloats {
+                floats,
+                report: report_asked(given),
+            }),
+            Err(refusal) => Err(refusal),
+        },
     }
 }
 
@@ -401,36 +455,38 @@ pub fn bits_of<'a>(given: &Given<'_, 'a>, format: Format) -> Asked<'a, PackBits>
     })
 }
 
-/// Returns the job that packs numerals.
-fn numerals_job<'a>(given: &Given<'_, 'a>, format: Format) -> Asked<'a, Job<'a>> {
+/// Returns how numerals are packed, from the options.
+fn numerals_of<'a>(given: &Given<'_, 'a>, format: Format) -> Asked<'a, PackSettings>
+    ensures value { IfOk result (λ p. AreNumeralsPacked given.now format p) }
+    ensures refused { IfErr result (λ _. (p : PackSettings) → ¬ AreNumeralsPacked given.now format p) }
+{
     refuse_value(given, &REPORT, FOR_FLOATS)?;
-    let settings = PackSettings {
+    Ok(PackSettings {
         radix: radix_of(given)?,
         format,
         policy: policy_of(given)?,
         mode: mode_of(given)?,
         endian: endian_of(given)?,
-    };
-    lines_job(given, LinesRule::Numerals(settings))
+    })
 }
 
-/// Returns the job that packs floats.
-fn floats_job<'a>(
+/// Returns how floats are packed, from the options.
+fn floats_of<'a>(
     given: &Given<'_, 'a>,
     format: Format,
     layout: FloatLayout,
-) -> Asked<'a, Job<'a>> {
+) -> Asked<'a, FloatWords>
+    ensures value { IfOk result (λ f. AreFloatsPacked given.now format layout f) }
+    ensures refused { IfErr result (λ _. (f : FloatWords) → ¬ AreFloatsPacked given.now format layout f) }
+{
     let why = "goes with lines alone, not with floats";
     refuse_value(given, &RADIX, why)?;
     refuse_layout(given, why)?;
-    Ok(Job::PackFloats {
-        floats: FloatWords {
-            layout,
-            format,
-            policy: policy_of(given)?,
-            mode: mode_of(given)?,
-            endian: endian_of(given)?,
-        },
-        report: report_asked(given),
+    Ok(FloatWords {
+        layout,
+        format,
+        policy: policy_of(given)?,
+        mode: mode_of(given)?,
+        endian: endian_of(given)?,
     })
 }

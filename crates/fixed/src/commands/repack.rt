@@ -1,5 +1,12 @@
 //! `fixed repack`: converts raw words to raw words of another format.
 
+ghost use Rattle.std.specs.Prelude.{IfErr, IfOk};
+ghost use Rattle.command_line.specs.Device.{written_to};
+ghost use Rattle.fixed.specs.RecodeRuns.{RepacksBetween};
+ghost use Rattle.fixed.specs.Repack.{IsRepackAsked, IsRepackNamed};
+ghost use Rattle.fixed.specs.declared.inputs.Job.{Job};
+ghost use Rattle.fixed_pack.specs.declared.repack.Repack.{Repack};
+
 use crate::commands::floats::{Item, WordInput, recode_on};
 use crate::inputs::{Job, run_inputs};
 use crate::options::{ENDIAN, ENDIAN_OUT, LIMIT, OUTPUT, POLICY, REPORT, TARGET_MODE};
@@ -12,7 +19,7 @@ use fixed_command::Limit;
 use fixed_pack::{Repack, WordReport};
 use fixed_steps::Steps;
 use line_engine::Status;
-use std::io::Read;
+use std::io::{Read, Write};
 use std::sync::ledger::Ledger;
 
 const SOURCE: Operand = Operand {
@@ -56,16 +63,19 @@ pub fn page() -> Page {
 
 /// Writes the words of one input as words of another format, and reports on standard error why it did not end well.
 #[inline(never)]
-pub fn run_on<R: Read + Drop, L: Ledger>(
+pub fn run_on<R: Read + Drop, S: Write + Drop, F: Write + Drop, L: Ledger>(
     rt: &HostRuntime,
     words: &Repack,
     limit: &Option<Limit>,
     form: Option<ReportForm>,
     file: Option<&str>,
     reader: R,
-    output: &mut Output,
+    output: &mut Output<S, F>,
     steps: &mut Steps<L>,
-) -> Status {
+) -> Status
+    ensures { RepacksBetween form limit.now words.now result (R.remaining reader)
+        (written_to S.contents F.contents output.old) (written_to S.contents F.contents output.new) }
+{
     let input = WordInput {
         item: Item::Word,
         file,
@@ -83,12 +93,11 @@ pub fn run_on<R: Read + Drop, L: Ledger>(
     }
 }
 
-/// Writes the words of each file as words of another format.
-pub fn run<'a, L: Ledger>(
-    rt: &HostRuntime,
-    given: &Given<'_, 'a>,
-    steps: &mut Steps<L>,
-) -> Asked<'a, Status> {
+/// Returns how a word is written in another format, from the operands and options.
+fn words_of<'a>(given: &Given<'_, 'a>) -> Asked<'a, Repack>
+    ensures value { IfOk result (λ words. IsRepackNamed given.now words) }
+    ensures refused { IfErr result (λ _. (words : Repack) → ¬ IsRepackNamed given.now words) }
+{
     let source = match format_at(given, 0, "SOURCE") {
         Ok(source) => source,
         Err(refusal) => return Err(refusal),
@@ -98,16 +107,38 @@ pub fn run<'a, L: Ledger>(
         Err(refusal) => return Err(refusal),
     };
     let endian = endian_of(given)?;
-    let job = Job::Repack {
-        words: Repack {
-            source,
-            target,
-            policy: policy_of(given)?,
-            target_mode: target_mode_of(given)?,
-            endian,
-            endian_out: endian_out_of(given, endian)?,
-        },
-        report: report_asked(given),
-    };
-    run_inputs(rt, &job, "", given, 2, steps)
+    Ok(Repack {
+        source,
+        target,
+        policy: policy_of(given)?,
+        target_mode: target_mode_of(given)?,
+        endian,
+        endian_out: endian_out_of(given, endian)?,
+    })
+}
+
+/// Returns the job for each input.
+fn job_of<'a>(given: &Given<'_, 'a>) -> Asked<'a, Job<'a>>
+    ensures value { IfOk result (λ job. IsRepackAsked given.now job) }
+    ensures refused { IfErr result (λ _. (job : Job) → ¬ IsRepackAsked given.now job) }
+{
+    match words_of(given) {
+        Ok(words) => Ok(Job::Repack {
+            words,
+            report: report_asked(given),
+        }),
+        Err(refusal) => Err(refusal),
+    }
+}
+
+/// Writes the words of each file as words of another format.
+pub fn run<'a, L: Ledger>(
+    rt: &HostRuntime,
+    given: &Given<'_, 'a>,
+    steps: &mut Steps<L>,
+) -> Asked<'a, Status> {
+    match job_of(given) {
+        Ok(job) => run_inputs(rt, &job, "", given, 2, steps),
+        Err(refusal) => Err(refusal),
+    }
 }

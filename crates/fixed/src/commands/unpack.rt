@@ -1,7 +1,14 @@
 //! `fixed unpack`: writes raw words as lines or as raw floats.
 
-ghost use Rattle.std.specs.Prelude.{IfErr, IfOk};
-ghost use Rattle.fixed.specs.Unpack.{HasFloatsAlone};
+ghost use Rattle.std.specs.Prelude.{◌≡◌, IfErr, IfOk, ℕ};
+ghost use Rattle.command_line.specs.Device.{written_to};
+ghost use Rattle.fixed.specs.RecodeRuns.{IsExcerptEnd, RecodesBetween, UnpackEndsBetween, UnpacksBy, size_of};
+ghost use Rattle.fixed.specs.Unpack.{AreWordsUnpacked, HasFloatsAlone, IsBinaryWritten, IsUnpackAsked, IsWrittenAsked};
+ghost use Rattle.fixed.specs.declared.commands.unpack.Written.{Written};
+ghost use Rattle.fixed.specs.declared.inputs.Job.{Job};
+ghost use Rattle.fixed_command.specs.declared.convert.Settings.{Settings};
+ghost use Rattle.line_engine.specs.declared.status.Status.{Status};
+ghost use Rattle.run_engine.specs.Refused.{Counts};
 
 use crate::commands::amounts;
 use crate::commands::floats::{push_bytes, status_of, unpack_on};
@@ -15,13 +22,14 @@ use command_line::device::{Failure, Headed, Output, Skipped, Writer};
 use command_line::given::{Asked, Given, Refusal};
 use command_line::page::{Operand, Page};
 use command_line::report::{Report, report_end};
-use fixed_command::Limit;
+use fixed_command::{Limit, Settings};
 use fixed_io::{StdSink, StdSource};
 use fixed_pack::{Recode, UnpackAmounts, UnpackRule, WordFloats, WordRefusal, run_recode};
 use fixed_steps::Steps;
 use line_engine::Status;
 use run_engine::{Refusals, RefusedLine};
-use std::io::Read;
+use std::io::{Read, Write};
+use std::mem;
 use std::sync::ledger::Ledger;
 
 /// Why an option has no meaning for floats.
@@ -120,7 +128,9 @@ pub enum Written {
 
 impl Written {
     /// Returns the length of a word in bytes.
-    fn size(&self) -> usize {
+    fn size(&self) -> usize
+        ensures { result ≡ size_of self.now }
+    {
         match self {
             Written::Lines(rule) => rule.count(),
             Written::Amounts(amounts) => amounts.count(),
@@ -137,30 +147,62 @@ pub struct Unpacking {
 }
 
 /// Unpacks one input, and reports on standard error why it did not end well.
-pub fn run_on<R: Read + Drop, L: Ledger>(
+pub fn run_on<R: Read + Drop, S: Write + Drop, F: Write + Drop, L: Ledger>(
     rt: &HostRuntime,
     unpacking: &Unpacking,
     limit: &Option<Limit>,
     file: Option<&str>,
     reader: R,
-    output: &mut Output,
+    output: &mut Output<S, F>,
     steps: &mut Steps<L>,
-) -> Status {
+) -> Status
+    ensures { UnpackEndsBetween limit.now unpacking.now result (R.remaining reader)
+        (written_to S.contents F.contents output.old) (written_to S.contents F.contents output.new) }
+{
     let excerpt = unpacking.excerpt;
     let mut headed = Headed::new(reader);
     let mut skipped = Skipped::new(&mut headed, excerpt.skip);
     let words = (&mut skipped).take(excerpt.most_bytes(unpacking.written.size()));
-    let status = match &unpacking.written {
-        Written::Lines(rule) => lines_on(rt, rule, limit, file, words, output, steps),
-        Written::Amounts(amounts) => lines_on(rt, amounts, limit, file, words, output, steps),
-        Written::Floats(floats) => unpack_on(rt, floats, limit, file, words, output, steps),
-    };
+    let status = words_on(rt, &unpacking.written, limit, file, words, output, steps);
     let missing = skipped.missing();
     if excerpt.skip == 0 && headed.head() == b"RIFF".as_slice() {
         note_header(rt, file);
     }
+    end_excerpt(rt, file, &excerpt, status, missing)
+}
+
+/// Unpacks words, and reports on standard error why their run did not end well.
+fn words_on<R: Read + Drop, S: Write + Drop, F: Write + Drop, L: Ledger>(
+    rt: &HostRuntime,
+    written: &Written,
+    limit: &Option<Limit>,
+    file: Option<&str>,
+    reader: R,
+    output: &mut Output<S, F>,
+    steps: &mut Steps<L>,
+) -> Status
+    ensures { UnpacksBy written.now limit.now result (R.remaining reader)
+        (written_to S.contents F.contents output.old) (written_to S.contents F.contents output.new) }
+{
+    match written {
+        Written::Lines(rule) => lines_on(rt, rule, limit, file, reader, output, steps),
+        Written::Amounts(amounts) => lines_on(rt, amounts, limit, file, reader, output, steps),
+        Written::Floats(floats) => unpack_on(rt, floats, limit, file, reader, output, steps),
+    }
+}
+
+/// Returns the status of an input from that of its run. Reports on standard error if bytes to skip are missing.
+fn end_excerpt(
+    rt: &HostRuntime,
+    file: Option<&str>,
+    excerpt: &Excerpt,
+    status: Status,
+    missing: u64,
+) -> Status
+    ensures { IsExcerptEnd status result }
+{
     if status == Status::Done && missing > 0 && excerpt.count > 0 {
-        return report_short(rt, file, &excerpt, missing);
+        return report_short(rt, file, excerpt, missing);
     }
     status
 }
@@ -175,7 +217,9 @@ fn note_header(rt: &HostRuntime, file: Option<&str>) {
 }
 
 /// Reports on standard error that this many of the bytes to skip are missing.
-fn report_short(rt: &HostRuntime, file: Option<&str>, excerpt: &Excerpt, missing: u64) -> Status {
+fn report_short(rt: &HostRuntime, file: Option<&str>, excerpt: &Excerpt, missing: u64) -> Status
+    ensures { result ≡ Status.Faults }
+{
     let mut report = Report::of(file);
     report.text("the input ends within the ");
     report.number(excerpt.skip);
@@ -187,19 +231,31 @@ fn report_short(rt: &HostRuntime, file: Option<&str>, excerpt: &Excerpt, missing
 
 /// Writes the words of one input as lines, and reports on standard error why it did not end well.
 #[inline(never)]
-fn lines_on<U: Recode<Cause = WordRefusal> + Copy + Drop, R: Read + Drop, L: Ledger>(
+fn lines_on<
+    U: Recode<Cause = WordRefusal> + Copy + Drop,
+    R: Read + Drop,
+    S: Write + Drop,
+    F: Write + Drop,
+    L: Ledger,
+>(
     rt: &HostRuntime,
     rule: &U,
     limit: &Option<Limit>,
     file: Option<&str>,
     reader: R,
-    output: &mut Output,
+    output: &mut Output<S, F>,
     steps: &mut Steps<L>,
-) -> Status {
+) -> Status
+    ensures { RecodesBetween limit.now (U.size rule.now) (U.Recodes rule.now) (U.Refuses rule.now) Counts rule.now
+        result (R.remaining reader) (written_to S.contents F.contents output.old)
+        (written_to S.contents F.contents output.new) }
+{
     let failure = Failure::new(None);
     let mut source = StdSource::new(reader);
+    // The sink owns the writer meanwhile, so that contracts know what it contains.
+    let writer = mem::replace(output, Output::Nowhere);
     let mut sink = StdSink::new(Writer {
-        writer: output,
+        writer,
         failure: &failure,
     });
     let end = run_recode(limit, *rule, Refusals::new(), &mut source, &mut sink, steps);
@@ -209,6 +265,7 @@ fn lines_on<U: Recode<Cause = WordRefusal> + Copy + Drop, R: Read + Drop, L: Led
     }
     report_left_over(rt, file, status, end.left_over);
     report_end(rt, file, status, sink.lines(), &failure);
+    *output = sink.into_writer().writer;
     status
 }
 
@@ -218,44 +275,75 @@ pub fn run<'a, L: Ledger>(
     given: &Given<'_, 'a>,
     steps: &mut Steps<L>,
 ) -> Asked<'a, Status> {
+    match job_of(given) {
+        Ok((job, files)) => run_inputs(rt, &job, "", given, files, steps),
+        Err(refusal) => Err(refusal),
+    }
+}
+
+/// Returns the job for each input, and the index of the first file.
+fn job_of<'a>(given: &Given<'_, 'a>) -> Asked<'a, (Job<'a>, usize)>
+    ensures value { IfOk result (λ asked. IsUnpackAsked given.now asked.0 asked.1) }
+    ensures refused { IfErr result (λ _. (job : Job) (files : ℕ) → ¬ IsUnpackAsked given.now job files) }
+{
     let (written, files) = match written_of(given) {
         Ok(found) => found,
         Err(refusal) => return Err(refusal),
     };
-    let excerpt = match excerpt_of(given) {
-        Ok(excerpt) => excerpt,
-        Err(refusal) => return Err(refusal),
-    };
-    let job = Job::Unpack(Unpacking { excerpt, written });
-    run_inputs(rt, &job, "", given, files, steps)
+    match excerpt_of(given) {
+        Ok(excerpt) => Ok((Job::Unpack(Unpacking { excerpt, written }), files)),
+        Err(refusal) => Err(refusal),
+    }
 }
 
-/// Returns what is written for each word, and the index of the first file.
-fn written_of<'a>(given: &Given<'_, 'a>) -> Asked<'a, (Written, usize)> {
-    if let Some(format) = amounts::decimal_at(given, 0) {
-        return match amounts::unpack_settings(given, format) {
+/// Returns what is written for each word, by the format that the first operand names, and the index of the first file.
+fn written_of<'a>(given: &Given<'_, 'a>) -> Asked<'a, (Written, usize)>
+    ensures value { IfOk result (λ asked. IsWrittenAsked given.now asked.0 asked.1) }
+    ensures refused { IfErr result (λ _. (written : Written) (files : ℕ) → ¬ IsWrittenAsked given.now written files) }
+{
+    match amounts::decimal_at(given, 0) {
+        Some(format) => match amounts::unpack_settings(given, format) {
             Ok(settings) => Ok((Written::Amounts(settings), 1)),
             Err(refusal) => Err(refusal),
-        };
+        },
+        None => binary_written(given),
     }
+}
+
+/// Returns what is written for each word of a binary format, and the index of the first file.
+fn binary_written<'a>(given: &Given<'_, 'a>) -> Asked<'a, (Written, usize)>
+    ensures value { IfOk result (λ asked. IsBinaryWritten given.now asked.0 asked.1) }
+    ensures refused { IfErr result (λ _. (written : Written) (files : ℕ) → ¬ IsBinaryWritten given.now written files) }
+{
     amounts::refuse_decimal_target(given, 1)?;
-    let (rule, files) = conversion(given, 0)?;
+    let (rule, files) = match conversion(given, 0) {
+        Ok(found) => found,
+        Err(refusal) => return Err(refusal),
+    };
+    match words_of(given, *rule.settings(), files) {
+        Ok(written) => Ok((written, files)),
+        Err(refusal) => Err(refusal),
+    }
+}
+
+/// Returns what is written for each word, by a conversion. `files` is the index of the first file.
+fn words_of<'a>(given: &Given<'_, 'a>, settings: Settings, files: usize) -> Asked<'a, Written>
+    ensures value { IfOk result (λ written. AreWordsUnpacked given.now settings files written) }
+    ensures refused { IfErr result (λ _. (s : Settings) (written : Written)
+        → ¬ AreWordsUnpacked given.now s files written) }
+{
     let endian = endian_of(given)?;
-    let written = match written_floats_of(given)? {
-        None => Written::Lines(UnpackRule {
-            settings: *rule.settings(),
-            endian,
-        }),
-        Some(layout) => {
-            only_floats(given, files)?;
-            Written::Floats(WordFloats {
-                format: rule.settings().source,
+    match written_floats_of(given)? {
+        None => Ok(Written::Lines(UnpackRule { settings, endian })),
+        Some(layout) => match only_floats(given, files) {
+            Ok(()) => Ok(Written::Floats(WordFloats {
+                format: settings.source,
                 layout,
                 endian,
-            })
-        }
-    };
-    Ok((written, files))
+            })),
+            Err(refusal) => Err(refusal),
+        },
+    }
 }
 
 /// Refuses arguments that have a meaning only for lines. `files` is the index of the first file.

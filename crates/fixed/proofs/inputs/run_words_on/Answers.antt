@@ -10,8 +10,8 @@ returns g c = (
     before = _;
     after = _;
     runs = record {
-      run = λ some. let end = c.convert_words-end in (end.result.refused, end.result.first, end.ensures.run some);
-      memory = λ lacks. let m = c.convert_words-end.ensures.memory lacks in rw m.0 (rw m.1 (rw m.2 refl));
+      run = λ some. let ran = c.convert_words-end.ensures.run some in (c.is_some.result, ran.0, ran.1, _, _, _, ran.2);
+      memory = λ lacks. let m = c.convert_words-end.ensures.memory lacks in rw m.0 (rw m.1 (rw m.3 refl));
     };
     input = rw c.new-source.ensures.reader c.new.ensures;
     from = rw c.new-sink.ensures.writer (ap (written_to g.S.Write.contents g.F.Write.contents) c.replace-writer.ensures.value);
