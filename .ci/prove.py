@@ -124,7 +124,7 @@ class Bench:
             words += ["-L", f"dependency={self.store.path(self.keys[it], 'rlib')}"]
         words += ["--antt-project", f"{home}/rattle/logic/antt-project.json", "--logic-built", f"{home}/logic_built"]
         words += ["--crate-type", "staticlib"] if crate.is_static else []
-        return [*words, "--cpu", self.cpu, "--toolchain", f"{home}/toolchain", "--jobs", str(jobs), "--links", f"{name}="]
+        return [*words, "--jobs", str(jobs), "--links", f"{name}="]
 
     def log(self, name):
         """Where what is said of a crate, or of a run of `rt ci`, goes."""
@@ -143,7 +143,8 @@ class Bench:
         with tempfile.TemporaryDirectory(prefix="prove-", dir=self.store.folder) as room:
             to = f"{room}/{crate.made}"
             compiled = f"{to}.o" if crate.is_program else to
-            is_well = self.call(log, crate.folder, "rattle", "build", *self.words(name, jobs), "-o", compiled)
+            words = [*self.words(name, jobs), "--cpu", self.cpu, "--toolchain", f"{home}/toolchain", "-o", compiled]
+            is_well = self.call(log, crate.folder, "rattle", "build", *words)
             if is_well and crate.is_program:
                 words = ["--target", "x86_64-unknown-linux-gnu", "--toolchain", f"{home}/toolchain", "-o", to, compiled]
                 words += [f"{home}/c/libos_c.a", f"{home}/c/liblibc_c.a"]

@@ -4,10 +4,10 @@
     wrong_bodies.py try [CRATE..]     tries those of wrong-bodies/, of every crate or of these (make wrong-bodies)
     wrong_bodies.py table [LOG..]     prints a table of all of them (make wrong-bodies-table), also by these logs of rt must-fail
 
-`rt` tries the edits of a crate's must-fail/, each by a check of its own. Those of wrong-bodies/ are tried in a copy of the crates, as
-many by one check as change bodies of different functions: a body has to do with its own contract and its own proof alone. Both ways of
-trying (make test, make wrong-bodies) keep what refused each edit in build/logs, for as long as the edit and the file that it edits stay
-the same.
+`rt` tries the edits of a crate's must-fail/, each by a check of its own. Those of wrong-bodies/ are tried over the kept statements of the
+crates below, several by one check of the edited functions and what they call, if they change bodies of different functions: a body has
+to do with its own contract and its own proof alone. Both ways of trying (make test, make wrong-bodies) keep what refused each edit in
+build/logs, for as long as the edit and the file that it edits stay the same.
 
 A row of the table names the function whose contract refuses the edit, the clause or condition, and where the check stopped: at a goal
 that is open or false, or inside a proof that was written for the right body, which shows less of the contract.
@@ -20,12 +20,16 @@ import shutil
 import subprocess
 import sys
 import tempfile
+from concurrent.futures import ThreadPoolExecutor
 
+from crates import READ
 from rules import parts
 
 TOP = os.path.dirname(os.path.dirname(os.path.abspath(__file__)))
 KEPT = f"{TOP}/build/logs/wrong-bodies"
 IN_GATE, LEFT_OUT = "must-fail", "wrong-bodies"
+# How many edits one check tries at most: it loads the crates below once, and other checks go on beside it.
+MOST_AT_ONCE = 12
 # How a line begins that is no part of a body.
 DECLARES = re.compile(r"\s*(ghost|ensures|requires|(pub(\(crate\))? )?(const|fn|struct|enum|type)\b|use|///|//!)")
 
@@ -48,111 +52,120 @@ def crates_in_order():
 class Edit:
     """An edit: the file that it changes, its pairs of an old and a new text, and the functions that these stand in."""
 
-    def __init__(self, folder, path):
-        self.key, self.path = (path.split("/")[-3], os.path.basename(path)[:-5]), ""
+    def __init__(self, path):
+        self.key, self.room = (path.split("/")[-3], os.path.basename(path)[:-5]), ""
         with open(path, encoding="utf-8") as file:
             self.file, self.pairs, _ = parts(file.read())
-        with open(f"{folder}/{self.file}", encoding="utf-8") as file:
+        source = f"{TOP}/crates/{self.key[0]}/{self.file}"
+        with open(source, encoding="utf-8") as file:
             text = file.read()
         lines = [text.partition(old)[0].count("\n") + 1 for old, _ in self.pairs]
-        self.functions = {function_at(f"{folder}/{self.file}", line) for line in lines}
+        self.functions = {function_at(source, line) for line in lines}
         self.is_of_bodies = self.file.startswith("src/") and not any(DECLARES.match(old) for old, _ in self.pairs)
+
+    def module(self):
+        """The path of its file's module below the crate."""
+        return self.file[len("src/") : -len(".rt")].replace("/", "::")
+
+    def only(self):
+        """The words that have a check look at its functions alone, and at what they call: a method goes by its module."""
+        with open(f"{self.room}/{self.file}", encoding="utf-8") as file:
+            own = set(re.findall(r"^(?:pub(?:\(crate\))? )?(?:final )?fn (\w+)", file.read(), re.M))
+        is_root = self.module() in ("lib", "main")
+        if is_root and not self.functions <= own:
+            return []
+        paths = [name if is_root else f"{self.module()}::{name}" if name in own else self.module() for name in self.functions]
+        return [word for it in sorted(set(paths)) for word in ("--only", it)]
 
     def is_meant(self, message):
         """Whether a message is about one of the functions, by its place in a source or in a proof."""
-        place = re.match(r"(?:note: )?(?:\./)?(\S+?):\d+:\d+: ", message)
+        place = re.match(r"(?:note: )?(?:\./)?(\S+?):(\d+):\d+: ", message)
         proof = re.fullmatch(r"proofs/(.*/)?(\w+)/(?:Answers|Invariants)\.antt", place[1]) if place else None
         if proof:
             module = self.file[len("src/") : -len(".rt")]
             return proof[2] in self.functions and (module in ("lib", "main") or (proof[1] or "").startswith(f"{module}/"))
-        return bool(place) and place[1] == self.file and self.at(message) in self.functions
-
-    def at(self, message):
-        """The function that a message is about by the line of the source, as the edit has left it."""
-        return function_at(self.path, int(re.search(r":(\d+):", message)[1]))
+        # (the line is that of the source as the edit has left it)
+        return bool(place) and place[1] == self.file and function_at(f"{self.room}/{self.file}", int(place[2])) in self.functions
 
 
 def in_groups(edits):
-    """Edits in groups, each of which is tried by one check: in a group each changes bodies of other functions, so that no edit
-    has to do with the contract or the proof of another; one that changes more than bodies is alone."""
+    """Edits of a crate in groups, each of which is tried by one check: in a group each changes bodies of other functions, so that no
+    edit has to do with the contract or the proof of another; one that changes more than bodies is alone."""
     left = list(edits)
     while left:
         group, changed = left[:1], {(left[0].file, it) for it in left[0].functions}
         for it in left[1:] if left[0].is_of_bodies else ():
             functions = {(it.file, name) for name in it.functions}
-            if it.is_of_bodies and not functions & changed:
+            if it.is_of_bodies and not functions & changed and len(group) < MOST_AT_ONCE:
                 group.append(it)
                 changed |= functions
         yield group
         left = [it for it in left if it not in group]
 
 
-def try_group(folder, group):
-    """Checks a crate with these edits; the first message about each, a goal before what stands in a proof; None if there is none."""
-    texts = {}
-    for it in group:
-        path = it.path = f"{folder}/{it.file}"
-        if path not in texts:
-            with open(path, encoding="utf-8") as file:
-                texts[path] = file.read()
-    edited = dict(texts)
-    for it in group:
-        for old, new in it.pairs:
-            edited[it.path] = edited[it.path].replace(old, new)
-    try:
-        write_all(edited)
+def try_group(bench, group):
+    """Checks a copy of a crate with these edits; the first message about each, a goal before what stands in a proof; None if there is
+    none. One of which nothing was said beside others is tried alone."""
+    crate = group[0].key[0]
+    with tempfile.TemporaryDirectory(prefix="wrong-bodies-") as room:
+        for part in READ:
+            if os.path.isdir(f"{TOP}/crates/{crate}/{part}"):
+                shutil.copytree(f"{TOP}/crates/{crate}/{part}", f"{room}/{part}")
+        for it in group:
+            it.room = room
+            with open(f"{room}/{it.file}", encoding="utf-8") as file:
+                text = file.read()
+            for old, new in it.pairs:
+                text = text.replace(old, new)
+            with open(f"{room}/{it.file}", "w", encoding="utf-8") as file:
+                file.write(text)
+        only = [it.only() if it.is_of_bodies else [] for it in group]
+        words = [word for it in only for word in it] if all(only) else []
         how = {"stdout": subprocess.PIPE, "stderr": subprocess.STDOUT, "text": True, "errors": "replace", "check": False}
-        ran = subprocess.run(["rt", "check"], cwd=folder, **how)
+        ran = subprocess.run(["rattle", "check", *bench.words(crate, 1), *words], cwd=room, **how)
         told = [it for it in ran.stdout.split("\n") if re.match(r"(note: )?\S+:\d+:\d+: ", it) and ("error" in it or "not proved" in it)]
+        is_refused = ran.returncode == 1 and re.search(r"^(only=|logic=not-proved)", ran.stdout, re.M)
         found = {}
         for it in group:
-            about = told if len(group) == 1 else [message for message in told if it.is_meant(message)]
-            is_refused = ran.returncode == 1 and "logic=not-proved" in ran.stdout
+            about = [message for message in told if it.is_meant(message)] or (told if len(group) == 1 else [])
             found[it.key] = next((it for it in about if "proofs/" not in it), about[0]) if about and is_refused else None
-        return found
-    finally:
-        write_all(texts)
+    for it in group if len(group) > 1 else ():
+        if not found[it.key]:
+            found |= try_group(bench, [it])
+    return found
 
 
-def write_all(texts):
-    """Writes each text to its path."""
-    for path, text in texts.items():
-        with open(path, "w", encoding="utf-8") as file:
-            file.write(text)
-
-
-def try_all(names, folders):
+def try_all(names, folders, jobs=0):
     """Tries the edits of these crates in these folders of theirs, many of a crate by one check; the status."""
+    # (prove.py reads this file)
+    from prove import Bench
+
+    bench = Bench(lanes=jobs)
+    names = names or crates_in_order()
+    if not bench.make(sorted({it for name in names for it in bench.crates[name].uses})):
+        return 1
     found, missed = {}, []
-    with tempfile.TemporaryDirectory(prefix="wrong-bodies-") as room:
-        shutil.copytree(f"{TOP}/crates", f"{room}/crates", ignore=shutil.ignore_patterns("out", IN_GATE, LEFT_OUT))
-        for name in ("crates.txt", "HANDLES"):
-            shutil.copy(f"{TOP}/{name}", room)
-        for crate in names or crates_in_order():
+    with ThreadPoolExecutor(bench.lanes) as pool:
+        running = {}
+        for crate in names:
             paths = sorted(path for folder in folders for (of, _), path in edits_in(folder).items() if of == crate)
-            edits = [Edit(f"{room}/crates/{crate}", path) for path in paths]
-            said = try_crate(f"{room}/crates/{crate}", edits)
-            found |= {key: refusal(key[0], every_edit()[key], message) for key, message in said.items() if message}
+            running[crate] = [pool.submit(try_group, bench, group) for group in in_groups([Edit(path) for path in paths])]
+        for crate, groups in running.items():
+            said = {key: message for it in groups for key, message in it.result().items()}
+            of_crate = {key: refusal(crate, every_edit()[key], message) for key, message in said.items() if message}
             missed += [key for key, message in said.items() if not message]
-            if edits:
-                at_goal = sum(found[it.key][1] == "at a goal" for it in edits if it.key in found)
-                print(f"{crate}: {sum(map(bool, said.values()))} of {len(edits)} wrong bodies are refused, {at_goal} at a goal", flush=True)
-    keep(found)
+            keep(of_crate)
+            found |= of_crate
+            if said:
+                at_goal = sum(where == "at a goal" for _, where in of_crate.values())
+                print(f"{crate}: {len(of_crate)} of {len(said)} wrong bodies are refused, {at_goal} at a goal", flush=True)
+                for key, (by, where) in sorted(of_crate.items()):
+                    if where != "at a goal":
+                        print(f"    {key[1]}: {where}, {by}", flush=True)
     for key in missed:
         print(f"NOT REFUSED: {'/'.join(key)}")
     print(f"{len(found)} wrong bodies were refused" + (", and others were not (above)" if missed else ""))
     return 1 if missed else 0
-
-
-def try_crate(folder, edits):
-    """Tries the edits of a crate; what was said of each. One of which nothing was said beside others is tried alone."""
-    said = {}
-    for group in in_groups(edits):
-        said |= try_group(folder, group)
-        for it in group if len(group) > 1 else ():
-            if not said[it.key]:
-                said |= try_group(folder, [it])
-    return said
 
 
 def function_at(path, line):
